@@ -1,0 +1,15 @@
+pub mod Faults
+pub mod Keys
+pub mod Lines
+pub mod Entries
+pub mod Records
+pub mod Model
+pub mod Posts
+pub mod Staff
+pub mod Read
+pub mod Written
+pub mod Ranges
+pub mod Described
+pub mod Handed
+pub mod Tables
+pub mod Held
