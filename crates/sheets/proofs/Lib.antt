@@ -1,2 +1,4 @@
 pub mod Fronts
 pub mod LineLaws
+pub mod Steps
+pub mod RecordLaws
