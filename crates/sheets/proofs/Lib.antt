@@ -1,4 +1,2 @@
-pub mod Fronts
-pub mod LineLaws
 pub mod Steps
 pub mod RecordLaws

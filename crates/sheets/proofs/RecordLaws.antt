@@ -8,10 +8,10 @@ use Rattle.std.specs.declared.result.Result.{Result}
 use Rattle.std.specs.declared.result.Result.the-variants.{Ok, Err}
 use Rattle.std.proofs.shelf.Lists.{map-push}
 use Rattle.std.proofs.shelf.Tests.{le-leb, eq-eqb}
-use Rattle.sheets.specs.declared.faults.Fault.{Fault}
-use Rattle.sheets.specs.declared.keys.Key.the-variants.{Teachers, Schools, Subjects, Lanes}
-use Rattle.sheets.specs.Faults.{bind, seen}
-use Rattle.sheets.specs.Entries.{single}
+use Rattle.lines.specs.declared.faults.Fault.{Fault}
+use Rattle.lines.specs.declared.keys.Key.the-variants.{Teachers, Schools, Subjects, Lanes}
+use Rattle.lines.specs.Faults.{bind, seen}
+use Rattle.lines.specs.Entries.{single}
 use Rattle.sheets.specs.Model.{TeacherRecord, LaneRecord}
 use Rattle.sheets.specs.Staff.{staff-spot, teachers, staff-of}
 use Rattle.sheets.specs.Posts.{posts-spot, lanes, posts-of}

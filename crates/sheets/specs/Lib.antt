@@ -1,7 +1,3 @@
-pub mod Faults
-pub mod Keys
-pub mod Lines
-pub mod Entries
 pub mod Records
 pub mod Model
 pub mod Posts

@@ -6,13 +6,13 @@ use lib.Dec.{eqb, leb}
 use lib.ListN.{length, getD}
 use Rattle.std.specs.declared.result.Result.{Result}
 use Rattle.std.specs.declared.result.Result.the-variants.{Ok, Err}
-use Rattle.sheets.specs.declared.keys.Key.the-variants.{Schools, Subjects, Lanes, Lane as LaneKey, List as ListKey}
-use Rattle.sheets.specs.declared.faults.Fault.{Fault}
-use Rattle.sheets.specs.declared.faults.FaultKind.the-variants.{TooLong, OutOfRange, PairTaken, Trailing}
-use Rattle.sheets.specs.declared.faults.Spot.{Spot}
-use Rattle.sheets.specs.Faults.{fault, bind}
-use Rattle.sheets.specs.Lines.{field}
-use Rattle.sheets.specs.Entries.{within, single, unrepeated}
+use Rattle.lines.specs.declared.keys.Key.the-variants.{Schools, Subjects, Lanes, Lane as LaneKey, List as ListKey}
+use Rattle.lines.specs.declared.faults.Fault.{Fault}
+use Rattle.lines.specs.declared.faults.FaultKind.the-variants.{TooLong, OutOfRange, PairTaken, Trailing}
+use Rattle.lines.specs.declared.faults.Spot.{Spot}
+use Rattle.lines.specs.Faults.{fault, bind}
+use Rattle.lines.specs.Lines.{field}
+use Rattle.lines.specs.Entries.{within, single, unrepeated}
 use Rattle.sheets.specs.Model.{LaneRecord, PostsModel}
 use Rattle.sheets.specs.Records.{repeat}
 

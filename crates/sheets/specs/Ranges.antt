@@ -4,7 +4,7 @@ use mathlib.Core.List.{List, [], _∷_}
 use Prim.Native.Nat.{ℕ}
 use lib.Dec.{eqb, leb}
 use lib.ListN.{length}
-use Rattle.sheets.specs.Entries.{within, all-within, distinct, further}
+use Rattle.lines.specs.Entries.{within, all-within, distinct, further}
 use Rattle.sheets.specs.Model.{LaneRecord, TeacherRecord, PostsModel, SheetsModel}
 use Rattle.sheets.specs.Posts.{taken, lane-within}
 

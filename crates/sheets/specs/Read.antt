@@ -3,8 +3,8 @@ use mathlib.Core.List.{List}
 use Prim.Native.Nat.{ℕ}
 use Rattle.std.specs.declared.result.Result.{Result}
 use Rattle.std.specs.declared.result.Result.the-variants.{Ok, Err}
-use Rattle.sheets.specs.declared.faults.Fault.{Fault}
-use Rattle.sheets.specs.Faults.{bind}
+use Rattle.lines.specs.declared.faults.Fault.{Fault}
+use Rattle.lines.specs.Faults.{bind}
 use Rattle.sheets.specs.Model.{PostsModel, SheetsModel, TeacherRecord, blank}
 use Rattle.sheets.specs.Posts.{posts-of}
 use Rattle.sheets.specs.Staff.{staff-of}

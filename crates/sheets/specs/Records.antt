@@ -3,8 +3,8 @@ use mathlib.Core.List.{List, [], _∷_, _++_}
 use Prim.Native.Nat.{ℕ, zero, suc, _+_}
 use Rattle.std.specs.declared.result.Result.{Result}
 use Rattle.std.specs.declared.result.Result.the-variants.{Ok, Err}
-use Rattle.sheets.specs.declared.faults.Fault.{Fault}
-use Rattle.sheets.specs.Faults.{bind}
+use Rattle.lines.specs.declared.faults.Fault.{Fault}
+use Rattle.lines.specs.Faults.{bind}
 
 -- n records more of `lines` lines each, from line l and place p on, behind those that are done; each is read in the light of those.
 -- Gives all of them and the place behind

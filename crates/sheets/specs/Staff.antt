@@ -6,14 +6,14 @@ use lib.Dec.{eqb, leb}
 use lib.ListN.{length}
 use Rattle.std.specs.declared.result.Result.{Result}
 use Rattle.std.specs.declared.result.Result.the-variants.{Ok, Err}
-use Rattle.sheets.specs.declared.keys.Key.the-variants.{Teachers, Home, Main, Wish, Points, Cost}
-use Rattle.sheets.specs.declared.faults.Fault.{Fault}
-use Rattle.sheets.specs.declared.faults.FaultKind.the-variants.{TooLong, Trailing}
-use Rattle.sheets.specs.declared.faults.Spot.{Spot}
-use Rattle.sheets.specs.Faults.{fault, bind}
+use Rattle.lines.specs.declared.keys.Key.the-variants.{Teachers, Home, Main, Wish, Points, Cost}
+use Rattle.lines.specs.declared.faults.Fault.{Fault}
+use Rattle.lines.specs.declared.faults.FaultKind.the-variants.{TooLong, Trailing}
+use Rattle.lines.specs.declared.faults.Spot.{Spot}
+use Rattle.lines.specs.Faults.{fault, bind}
 use Rattle.sheets.specs.Model.{TeacherRecord}
 use Rattle.sheets.specs.Records.{repeat}
-use Rattle.sheets.specs.Entries.{single, unrepeated, licences}
+use Rattle.lines.specs.Entries.{single, unrepeated, licences}
 
 -- line l of the staff sheet, which begins at place p
 abbrev pub staff-spot : ℕ → ℕ → Spot

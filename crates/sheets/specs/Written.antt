@@ -6,17 +6,12 @@ use lib.Dec.{leb}
 use lib.ListN.{length, drop}
 use Rattle.std.specs.declared.result.Result.{Result}
 use Rattle.std.specs.declared.result.Result.the-variants.{Ok, Err}
-use Rattle.text.specs.Commas.{commas}
-use Rattle.sheets.specs.declared.faults.WriteRefusal.{WriteRefusal}
-use Rattle.sheets.specs.declared.faults.WriteRefusal.the-variants.{BufferTooShort}
-use Rattle.sheets.specs.declared.keys.Key.{Key}
-use Rattle.sheets.specs.declared.keys.Key.the-variants.{Schools, Subjects, Lanes, Lane as LaneKey, List as ListKey, Teachers, Home, Main, Also, Wish, Points, Cost}
-use Rattle.sheets.specs.Keys.{key-bytes}
+use Rattle.sheets.specs.declared.refusals.WriteRefusal.{WriteRefusal}
+use Rattle.sheets.specs.declared.refusals.WriteRefusal.the-variants.{BufferTooShort}
+use Rattle.lines.specs.declared.keys.Key.{Key}
+use Rattle.lines.specs.declared.keys.Key.the-variants.{Schools, Subjects, Lanes, Lane as LaneKey, List as ListKey, Teachers, Home, Main, Also, Wish, Points, Cost}
+use Rattle.lines.specs.Written.{line}
 use Rattle.sheets.specs.Model.{LaneRecord, TeacherRecord, PostsModel, SheetsModel}
-
--- a line: the key, the numbers with commas between them, the byte 10
-abbrev pub line : Key → List ℕ → List ℕ
-line k ns = key-bytes k ++ (commas ns ++ (10 ∷ []))
 
 -- what f writes of each, one after another
 abbrev pub written-each : {A : Type 0} → (A → List ℕ) → List A → List ℕ

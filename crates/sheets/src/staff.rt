@@ -3,16 +3,16 @@ ghost use mathlib.Core.Path.{_≡_};
 ghost use mathlib.Core.List.{map, []};
 ghost use Prim.Native.Nat.{_<_, _≤_, _^_};
 ghost use Rattle.std.specs.Of.Vec.{vec-items, vec-cap};
-ghost use Rattle.sheets.specs.Faults.{seen};
+ghost use Rattle.lines.specs.Faults.{seen};
 ghost use Rattle.sheets.specs.Model.{teacher-record};
 ghost use Rattle.sheets.specs.Staff.{teacher as teacherOf, teachers as teachersOf, staff-of};
-use super::entries::licences;
-use super::entries::single;
-use super::entries::unrepeated;
-use super::faults::Fault;
-use super::faults::FaultKind;
-use super::faults::Spot;
-use super::keys::Key;
+use lines::licences;
+use lines::single;
+use lines::unrepeated;
+use lines::Fault;
+use lines::FaultKind;
+use lines::Spot;
+use lines::Key;
 use super::records::Teacher;
 
 // The six lines of a teacher, and the place behind them.

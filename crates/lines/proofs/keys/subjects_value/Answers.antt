@@ -1,0 +1,9 @@
+use borrow.Author.Tests.{ltb-false}
+use native.Mathlib.Omega.{arith}
+use Rattle.lines.specs.Keys.{key-bytes}
+use Rattle.lines.specs.declared.keys.Key.the-variants.{Subjects}
+use Rattle.lines.proofs.Fronts.{matched}
+use Rattle.lines.proofs.keys.subjects_value.Needs as need
+
+pub returns-in-115 : need.returns-in-115
+returns-in-115 c = matched (key-bytes Subjects) (c .args .line .now) (omega (arith, ltb-false)) (omega arith)

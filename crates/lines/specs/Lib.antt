@@ -1,0 +1,5 @@
+pub mod Faults
+pub mod Keys
+pub mod Lines
+pub mod Entries
+pub mod Written

@@ -1,9 +1,0 @@
-use borrow.Author.Tests.{ltb-false}
-use native.Mathlib.Omega.{arith}
-use Rattle.sheets.specs.Keys.{key-bytes}
-use Rattle.sheets.specs.declared.keys.Key.the-variants.{Also}
-use Rattle.sheets.proofs.Fronts.{matched}
-use Rattle.sheets.proofs.keys.also_value.Needs as need
-
-pub returns-in-97 : need.returns-in-97
-returns-in-97 c = matched (key-bytes Also) (c .args .line .now) (omega (arith, ltb-false)) (omega arith)

@@ -1,9 +1,0 @@
-use borrow.Author.Tests.{ltb-false}
-use native.Mathlib.Omega.{arith}
-use Rattle.sheets.specs.Keys.{key-bytes}
-use Rattle.sheets.specs.declared.keys.Key.the-variants.{Subjects}
-use Rattle.sheets.proofs.Fronts.{matched}
-use Rattle.sheets.proofs.keys.subjects_value.Needs as need
-
-pub returns-in-115 : need.returns-in-115
-returns-in-115 c = matched (key-bytes Subjects) (c .args .line .now) (omega (arith, ltb-false)) (omega arith)
