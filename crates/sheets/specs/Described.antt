@@ -17,6 +17,10 @@ pub record Describes (posts staff : List ℕ) (m : SheetsModel) : Type 0 where
   pub posts-sheet : posts ≡ posts-bytes (m .posts)
   pub staff-sheet : staff ≡ staff-bytes (m .teachers)
 
+-- the pair of sheets describes no model
+abbrev pub Undescribed : List ℕ → List ℕ → Type 0
+Undescribed posts staff = (m : SheetsModel) → Describes posts staff m → ⊥
+
 -- what is read is what the sheets describe, and nothing else is read
 pub record Canonical : Type 0 where
   pub read-is-described : (posts staff : List ℕ) (m : SheetsModel) → sheets-of posts staff ≡ Ok m → Describes posts staff m

@@ -1,0 +1,3 @@
+use Rattle.sheets.specs.Described.{Canonical}
+pub canonical : Canonical
+canonical = ?
