@@ -1,0 +1,11 @@
+pub mod Counts
+pub mod Lists
+pub mod RankLaws
+pub mod Offers
+pub mod Incumbents
+pub mod Bounds
+pub mod Lines
+pub mod Wished
+pub mod Orders
+pub mod Lowest
+pub mod Ranking

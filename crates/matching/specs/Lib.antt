@@ -1,0 +1,11 @@
+pub mod Count
+pub mod Picks
+pub mod Groups
+pub mod Market
+pub mod Log
+pub mod Wishes
+pub mod Promise
+pub mod Order
+pub mod Orders
+pub mod Ranks
+pub mod Ranking
