@@ -59,7 +59,7 @@ bandIn k p = cond (teaches p k) (bandOf p k) 0
 
 -- the completed wish list: for an incumbent every school that is not named follows, in declaration order
 abbrev pub unnamed : ℕ → List ℕ → List ℕ
-unnamed schools w = joinTo (λ k. cond (has (k + 1) w) [] (k + 1 ∷ [])) schools
+unnamed schools w = joinTo (λ k. cond (has (k + 1) w) [] ((k + 1) ∷ [])) schools
 
 unfoldable pub completed : ℕ → Person → List ℕ → List ℕ
 completed schools p w = w ++ cond (newcomer p) [] (unnamed schools w)

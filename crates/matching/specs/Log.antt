@@ -5,7 +5,7 @@ use mathlib.Core.List.{List, [], _∷_}
 use lib.Dec.{eqb, leb, ltb}
 use Rattle.std.specs.declared.option.Option.{Option}
 use Rattle.std.specs.declared.option.Option.the-variants.{Some, None}
-use Rattle.matching.specs.Market.{Market, overAsked}
+use Rattle.matching.specs.Market.{Board, overAsked}
 
 -- a call names teachers and lanes by their numbers, from 1; the tables count from 0
 pub data Call : Type 0 where
@@ -42,10 +42,10 @@ put f t a u = cond (eqb u t) a (f u)
 abbrev pub pressed : ℕ → (ℕ → ℕ) → ℕ → ℕ
 pressed l cut = raise (λ k. eqb k l) cut
 
-module _ (mk : Market) (ps : ℕ → List ℕ) where
+module _ (bd : Board) (ps : ℕ → List ℕ) where
   -- the first over-asked lane
   abbrev pub next : (ℕ → ℕ) → Option ℕ
-  next cut = least (overAsked mk ps cut) (mk .lanes)
+  next cut = least (overAsked bd ps cut) (bd .lanes)
 
   -- budget, cutoffs: the cutoffs that settle leaves
   unfoldable pub settled : ℕ → (ℕ → ℕ) → ℕ → ℕ
@@ -73,25 +73,25 @@ pub record State : Type 0 where
 abbrev pub opened : (ℕ → List ℕ) → State
 opened w = record { wishes = w; cuts = λ _. 1; posted = false }
 
-module _ (mk : Market) where
+module _ (bd : Board) where
   -- the pick lists that the wishes give
   abbrev pub picks : State → ℕ → List ℕ
-  picks s t = mk .pick t (s .wishes t)
+  picks s t = bd .pick t (s .wishes t)
 
   -- the call is accepted: none is after the post; a wish must be one that its teacher may have, a press needs an over-asked lane, a post none
   abbrev pub accepted : State → Call → Bool
-  accepted s (wish t w) = not (s .posted) && (within t (mk .teachers) && mk .mayWish (t - 1) w)
-  accepted s (press l) = not (s .posted) && (within l (mk .lanes) && overAsked mk (picks s) (s .cuts) (l - 1))
+  accepted s (wish t w) = not (s .posted) && (within t (bd .teachers) && bd .mayWish (t - 1) w)
+  accepted s (press l) = not (s .posted) && (within l (bd .lanes) && overAsked bd (picks s) (s .cuts) (l - 1))
   accepted s sweep = not (s .posted)
   accepted s (settle b) = not (s .posted)
-  accepted s post = not (s .posted) && onSome (next mk (picks s) (s .cuts)) true (λ _. false)
+  accepted s post = not (s .posted) && onSome (next bd (picks s) (s .cuts)) true (λ _. false)
 
   -- what an accepted call leaves; a wish sets every cutoff back to 1
   abbrev pub done : State → Call → State
   done s (wish t w) = record { wishes = put (s .wishes) (t - 1) w; cuts = λ _. 1; posted = s .posted }
   done s (press l) = record { wishes = s .wishes; cuts = pressed (l - 1) (s .cuts); posted = s .posted }
-  done s sweep = record { wishes = s .wishes; cuts = raise (overAsked mk (picks s) (s .cuts)) (s .cuts); posted = s .posted }
-  done s (settle b) = record { wishes = s .wishes; cuts = settled mk (picks s) b (s .cuts); posted = s .posted }
+  done s sweep = record { wishes = s .wishes; cuts = raise (overAsked bd (picks s) (s .cuts)) (s .cuts); posted = s .posted }
+  done s (settle b) = record { wishes = s .wishes; cuts = settled bd (picks s) b (s .cuts); posted = s .posted }
   done s post = record { wishes = s .wishes; cuts = s .cuts; posted = true }
 
   -- what a call leaves: a call that is not accepted changes nothing

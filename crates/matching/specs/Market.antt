@@ -71,9 +71,31 @@ module _ (mk : Market) where
   abbrev pub crowd : ℕ → ℕ
   crowd l = count (λ t. mk .licensed t l) (mk .teachers)
 
+-- what the cutoffs work on: ranks in the place of priorities
+pub record Board : Type 0 where
+  pub teachers : ℕ
+  pub lanes : ℕ
+  -- lane, teacher: the rank, and 0 for a teacher who is not licensed
+  pub rankAt : ℕ → ℕ → ℕ
+  pub fits : ℕ → Group → Bool
+  pub pick : ℕ → List ℕ → List ℕ
+  pub mayWish : ℕ → List ℕ → Bool
+
+-- the board of a market
+abbrev pub boardOf : Market → Board
+boardOf mk = record
+  { teachers = mk .teachers
+  ; lanes = mk .lanes
+  ; rankAt = λ l t. cond (mk .licensed t l) (rank mk l t) 0
+  ; fits = mk .fits
+  ; pick = mk .pick
+  ; mayWish = mk .mayWish
+  }
+
+module _ (bd : Board) where
   -- cutoffs, teacher, lane: the teacher is licensed and has a rank of at least the lane's cutoff
   unfoldable pub clears : (ℕ → ℕ) → ℕ → ℕ → Bool
-  clears cut t l = mk .licensed t l && leb (cut l) (rank l t)
+  clears cut t l = ltb 0 (bd .rankAt l t) && leb (cut l) (bd .rankAt l t)
 
   -- by pick lists and cutoffs
   module _ (ps : ℕ → List ℕ) where
@@ -87,18 +109,18 @@ module _ (mk : Market) where
 
     -- cutoffs, lane: the lane cannot take all its askers together
     unfoldable pub overAsked : (ℕ → ℕ) → ℕ → Bool
-    overAsked cut l = ltb l (mk .lanes) && not (mk .fits l (askers cut l))
+    overAsked cut l = ltb l (bd .lanes) && not (bd .fits l (askers cut l))
 
     -- cutoffs: no lane is over-asked
     abbrev pub Calm : (ℕ → ℕ) → Type 0
-    Calm cut = (l : ℕ) → l < mk .lanes → overAsked cut l ≡ false
+    Calm cut = (l : ℕ) → l < bd .lanes → overAsked cut l ≡ false
 
-    -- an assignment of teachers to lanes or to none is fair
-    pub record Fair (μ : ℕ → Option ℕ) : Type 0 where
-      -- who is given a lane has it on the pick list
-      pub listed : (t l : ℕ) → μ t ≡ Some l → (t < mk .teachers) × On l (ps t)
-      -- each lane can take those who are given it
-      pub fitting : (l : ℕ) → l < mk .lanes → mk .fits l (λ t. holds (μ t) l) ≡ true
-      -- no justified envy: nobody likes a lane better than what is given and stands there before one who is given it
-      pub noEnvy : (i t l : ℕ) → i < mk .teachers → μ t ≡ Some l → place (Some l) (ps i) < place (μ i) (ps i)
-          → mk .before l i t ≡ true → ⊥
+-- an assignment of teachers to lanes or to none is fair, by these pick lists
+pub record Fair (mk : Market) (ps : ℕ → List ℕ) (μ : ℕ → Option ℕ) : Type 0 where
+  -- who is given a lane has it on the pick list
+  pub listed : (t l : ℕ) → μ t ≡ Some l → (t < mk .teachers) × On l (ps t)
+  -- each lane can take those who are given it
+  pub fitting : (l : ℕ) → l < mk .lanes → mk .fits l (λ t. holds (μ t) l) ≡ true
+  -- no justified envy: nobody likes a lane better than what is given and stands there before one who is given it
+  pub noEnvy : (i t l : ℕ) → i < mk .teachers → μ t ≡ Some l → place (Some l) (ps i) < place (μ i) (ps i)
+      → mk .before l i t ≡ true → ⊥

@@ -5,16 +5,16 @@ use mathlib.Core.Logic.{_⊎_}
 use mathlib.Core.Bool.{true}
 use mathlib.Core.List.{List}
 use lib.ListN.{length, getD, take}
-use Rattle.matching.specs.Market.{Market}
+use Rattle.matching.specs.Market.{Board}
 use Rattle.matching.specs.Log.{Call, wish, post, opened, accepted, line}
 
--- a round of this market that began with the wishes w, and these calls
-module _ (mk : Market) (w : ℕ → List ℕ) (cs : List Call) where
+-- a round of this board that began with the wishes w, and these calls
+module _ (bd : Board) (w : ℕ → List ℕ) (cs : List Call) where
   -- call k, from 0, is a wish of teacher t for the list v, and the line before it accepts it
   pub record AcceptedWish (k t : ℕ) (v : List ℕ) : Type 0 where
     pub made : k < length cs
     pub call : getD cs k post ≡ wish (t + 1) v
-    pub taken : accepted mk (line mk (opened w) (take k cs)) (wish (t + 1) v) ≡ true
+    pub taken : accepted bd (line bd (opened w) (take k cs)) (wish (t + 1) v) ≡ true
 
   -- the last accepted wish of teacher t is for the list v
   pub record LastWish (t : ℕ) (v : List ℕ) : Type 0 where
@@ -33,4 +33,4 @@ module _ (mk : Market) (w : ℕ → List ℕ) (cs : List Call) where
 
 -- the calls leave no doubt which list that is
 abbrev pub One-wish-now : Type 0
-One-wish-now = (mk : Market) (w : ℕ → List ℕ) (cs : List Call) (t : ℕ) (u v : List ℕ) → WishNow mk w cs t u → WishNow mk w cs t v → u ≡ v
+One-wish-now = (bd : Board) (w : ℕ → List ℕ) (cs : List Call) (t : ℕ) (u v : List ℕ) → WishNow bd w cs t u → WishNow bd w cs t v → u ≡ v
