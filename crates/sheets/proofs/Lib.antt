@@ -1,6 +1,11 @@
 pub mod Steps
 pub mod RecordLaws
 pub mod WriteLaws
+pub mod CanonRecords
+pub mod CanonStaff
+pub mod Pairs
+pub mod CanonPosts
+pub mod Lengths
 pub mod Canonical
 pub mod ReadLaws
 pub mod KeptLaws
