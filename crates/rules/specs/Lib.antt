@@ -1,0 +1,4 @@
+pub mod Views
+pub mod Standings
+pub mod Limits
+pub mod Filled
