@@ -15,7 +15,7 @@ use super::lines::field;
 use bounded::BoundedList;
 
 // Is every number from low to high?
-fn all_in_range(ns: &[u16], low: u16, high: u16) -> bool
+pub fn all_in_range(ns: &[u16], low: u16, high: u16) -> bool
     ensures { λ r. ⌜ r ≡ all-within low high (now (ns .entry)) ⌝ }
 {
     for n in ns {
@@ -26,14 +26,15 @@ fn all_in_range(ns: &[u16], low: u16, high: u16) -> bool
     true
 }
 
-fn holds(ns: &[u16], x: u16) -> bool
+// Is x one of the numbers?
+pub fn holds(ns: &[u16], x: u16) -> bool
     ensures { λ r. ⌜ r ≡ has x (now (ns .entry)) ⌝ }
 {
     ns.contains(&x)
 }
 
 // Does no number come twice?
-fn distinct(ns: &[u16]) -> bool
+pub fn distinct(ns: &[u16]) -> bool
     ensures { λ r. ⌜ r ≡ distinctOf (now (ns .entry)) ⌝ }
 {
     let mut i = 0;

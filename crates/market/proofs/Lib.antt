@@ -1,0 +1,4 @@
+pub mod Pieces
+pub mod Lawful
+pub mod Short
+pub mod Appending

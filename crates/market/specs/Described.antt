@@ -30,7 +30,7 @@ Sheets-describe-a-lawful-market =
     (ahead : ℕ → ℕ → ℕ → Bool) (family : ℕ → Group → Bool) → Policies ahead family
     → (m : SheetsModel) → in-range m ≡ true → Lawful ahead family (tables-of m)
 
--- a pick list names no lane twice, so it is never longer than the lanes are many
+-- a pick list is never longer than the lanes are many
 abbrev pub Pick-lists-are-short : Type 0
 Pick-lists-are-short =
     (T : Tables) (t : ℕ) (w : List ℕ) → wish-ok (T .posts .schools) w ≡ true → length (pickOf (T .posts) (personAt T t) w) ≤ length (T .posts .lanes)

@@ -1,3 +1,4 @@
 pub mod Lists
 pub mod Tables
 pub mod Described
+pub mod Passing
