@@ -1,4 +1,4 @@
--- Lists that are filled up to a bound. Assumes nothing.
+-- Pick lists, put together piece by piece. Assumes nothing.
 use Prim.Native.Nat.{ℕ, zero, suc, _+_, _≤_, _<_}
 use native.Mathlib.Omega.{arith}
 use native.Mathlib.Numerals.{add-one}
@@ -10,33 +10,13 @@ use lib.Dec.{ltb}
 use lib.ListN.{length, getD, take, length-append}
 use Rattle.std.proofs.shelf.Lists.{take-all, take-append-le, take-more, length-map}
 use Rattle.std.proofs.shelf.Tests.{cases-lt, lt-ltb, le-ltb, cond-true, cond-false, eq-eqb, ne-eqb}
-use Rattle.bounded.specs.Listed.{pushed}
+use Rattle.bounded.proofs.Fronts.{more-front}
 use Rattle.lines.specs.Entries.{has}
 use Rattle.market.specs.Lists.{joinTo, keepTo, gather}
 use Rattle.market.specs.Passing.{passAt}
 use Rattle.market.specs.Tables.{Person, newcomer, unnamed, completed, atSchool, pickOf}
 use Rattle.sheets.specs.declared.records.Lane.{Lane}
 use Rattle.sheets.specs.Model.{lane-record, PostsModel}
-
-pub take-front : (b : ℕ) (xs ys : List ℕ) → take b (take b xs ++ ys) ≡ take b (xs ++ ys)
-take-front zero xs ys = refl
-take-front (suc b) [] ys = refl
-take-front (suc b) (x ∷ xs) ys = ap (λ l. x ∷ l) (take-front b xs ys)
-
--- nothing more
-pub same-front : (b : ℕ) (xs : List ℕ) → length xs ≤ b → xs ≡ take b (xs ++ [])
-same-front b xs h = sym (ap (take b) (append-nil xs) ∙ take-all b xs h)
-
--- one number more, if there is room
-pub push-front : (b : ℕ) (xs ys : List ℕ) (r : Bool) (x : ℕ) → length xs ≤ b → _≡_ {A = Bool × List ℕ} (r, ys) (pushed b xs x) → ys ≡ take b (xs ++ x ∷ [])
-push-front b xs ys r x h e = ap (λ p. p .1) e ∙ ⊎-elim
-    (λ (l : length xs < b). ap (λ (p : Bool × List ℕ). p .1) (cond-true _ (true, xs ++ x ∷ []) (false, xs) (lt-ltb (length xs) b l)) ∙ sym (take-all b (xs ++ x ∷ []) (simp length-append (omega arith))))
-    (λ (g : b ≤ length xs). ap (λ (p : Bool × List ℕ). p .1) (cond-false _ (true, xs ++ x ∷ []) (false, xs) (le-ltb (length xs) b g)) ∙ sym (take-append-le b xs (x ∷ []) g ∙ take-all b xs h))
-    (cases-lt (length xs) b)
-
--- a piece B behind what was filled with A
-pub more-front : (b : ℕ) (start A B xs ys : List ℕ) → xs ≡ take b (start ++ A) → ys ≡ take b (xs ++ B) → ys ≡ take b (start ++ (A ++ B))
-more-front b start A B xs ys e f = f ∙ ap (λ l. take b (l ++ B)) e ∙ take-front b (start ++ A) B ∙ ap (take b) (append-assoc start A B)
 
 -- ---- the pieces
 

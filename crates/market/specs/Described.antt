@@ -4,12 +4,11 @@ use mathlib.Core.Path.{_≡_}
 use mathlib.Core.Bool.{Bool, true, false, _||_}
 use mathlib.Core.List.{List}
 use lib.ListN.{length}
-use Rattle.lines.specs.Entries.{distinct}
 use Rattle.matching.specs.Groups.{Group, nobody, Part}
 use Rattle.matching.specs.Market.{Laws, OwnLaws, Picked, OwnPicked}
 use Rattle.sheets.specs.Model.{SheetsModel}
-use Rattle.sheets.specs.Ranges.{in-range}
-use Rattle.market.specs.Tables.{Tables, tables-of, marketOf, personAt, pickOf, wish-ok}
+use Rattle.sheets.specs.Ranges.{in-range, wish-ok}
+use Rattle.market.specs.Tables.{Tables, tables-of, marketOf, personAt, pickOf}
 
 -- the two laws of a standing, and the two of a limit
 pub record Policies (ahead : ℕ → ℕ → ℕ → Bool) (family : ℕ → Group → Bool) : Type 0 where

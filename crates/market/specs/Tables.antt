@@ -3,14 +3,14 @@
 use Prim.Native.Nat.{ℕ, suc, _+_}
 use mathlib.Core.Bool.{Bool, true, false, not, _&&_, _||_, cond}
 use mathlib.Core.List.{List, [], _∷_, _++_, map}
-use lib.Dec.{eqb, leb, ltb}
+use lib.Dec.{eqb, ltb}
 use lib.ListN.{length, getD}
-use Rattle.lines.specs.Entries.{has, distinct}
+use Rattle.lines.specs.Entries.{has}
 use Rattle.matching.specs.Groups.{Group}
 use Rattle.matching.specs.Market.{Market}
 use Rattle.matching.specs.Ranking.{standsBefore}
 use Rattle.sheets.specs.Model.{LaneRecord, TeacherRecord, PostsModel, SheetsModel}
-use Rattle.sheets.specs.Ranges.{few-within}
+use Rattle.sheets.specs.Ranges.{wish-ok}
 use Rattle.market.specs.Lists.{joinTo, keepTo, gather}
 
 -- what of a teacher stays the same through a round: the home school or 0, the main subject, the further licences
@@ -78,10 +78,6 @@ atSchool ls p s = keepTo (λ l. mainAt p s (getD ls l no-lane)) (length ls) ++ k
 -- the pick list that a wish list gives: school by school through the completed wish list
 unfoldable pub pickOf : PostsModel → Person → List ℕ → List ℕ
 pickOf m p w = gather (atSchool (m .lanes) p) (completed (m .schools) p w)
-
--- a wish list may have at most 12 schools, each of the round, none twice
-abbrev pub wish-ok : ℕ → List ℕ → Bool
-wish-ok schools w = few-within 12 schools w && distinct w
 
 module _ (T : Tables) where
   abbrev pub laneAt : ℕ → LaneRecord

@@ -4,4 +4,3 @@ mod picks;
 pub mod theorems;
 pub use bands::bands_of;
 pub use picks::pick_list;
-pub use picks::wishes_ok;

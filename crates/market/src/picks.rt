@@ -10,10 +10,8 @@ ghost use Rattle.sheets.specs.Held.{model-of};
 ghost use Rattle.sheets.specs.Model.{lane-record, teacher-record};
 ghost use Rattle.market.specs.Lists.{keepTo, gather};
 ghost use Rattle.market.specs.Passing.{passes as passesOf, passAt};
-ghost use Rattle.market.specs.Tables.{person, mainAt, alsoAt, atSchool, unnamed, pickOf, wish-ok};
+ghost use Rattle.market.specs.Tables.{person, mainAt, alsoAt, atSchool, unnamed, pickOf};
 use bounded::BoundedList;
-use lines::all_in_range;
-use lines::distinct;
 use lines::holds;
 use sheets::Lane;
 use sheets::Sheets;
@@ -101,11 +99,4 @@ pub fn pick_list(sheets: &Sheets, p: &Teacher, wishes: &[u16]) -> BoundedList<80
         add_unnamed(&mut out, sheets.lanes(), p, sheets.schools(), wishes);
     }
     out
-}
-
-// Are there at most 12 wishes, each a school of the round, none twice?
-pub fn wishes_ok(schools: u16, wishes: &[u16]) -> bool
-    ensures { λ r. ⌜ r ≡ wish-ok schools (now (wishes .entry)) ⌝ }
-{
-    wishes.len() <= 12 && all_in_range(wishes, 1, schools) && distinct(wishes)
 }

@@ -9,3 +9,4 @@ pub mod Lengths
 pub mod Canonical
 pub mod ReadLaws
 pub mod KeptLaws
+pub mod WishLaws

@@ -16,6 +16,10 @@ every p (x ∷ xs) = p x && every p xs
 abbrev pub few-within : ℕ → ℕ → List ℕ → Bool
 few-within most high ns = leb (length ns) most && all-within 1 high ns
 
+-- a wish list may have at most 12 schools, each of the round, none twice
+abbrev pub wish-ok : ℕ → List ℕ → Bool
+wish-ok schools w = few-within 12 schools w && distinct w
+
 abbrev pub lane-ok : ℕ → ℕ → LaneRecord → Bool
 lane-ok schools subjects l = lane-within schools subjects (l .school) (l .subject) (l .size) && (few-within 20 200 (l .list) && distinct (l .list))
 

@@ -2,7 +2,7 @@
 ghost use mathlib.Core.Path.{_≡_};
 ghost use mathlib.Core.List.{[]};
 ghost use Rattle.bounded.specs.Listed.{listed, pushed};
-ghost use lib.ListN.{length};
+ghost use lib.ListN.{length, take};
 ghost use Prim.Native.Nat.{_≤_};
 use super::BoundedList;
 
@@ -25,6 +25,17 @@ impl<const N: usize> BoundedList<N> {
             return true;
         }
         false
+    }
+
+    // The first numbers of a slice, as many as there is room for.
+    pub fn copied(items: &[u16]) -> BoundedList<N>
+        ensures { λ r. ⌜ listed r ≡ take N (now (items .entry)) ⌝ }
+    {
+        let mut out = BoundedList::new();
+        for x in items {
+            let _ = out.push(*x);
+        }
+        out
     }
 
     // How many numbers the list has.

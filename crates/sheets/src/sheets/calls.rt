@@ -11,7 +11,7 @@ ghost use Rattle.sheets.specs.Described.{Describes, Undescribed};
 ghost use Rattle.sheets.specs.Held.{model-of};
 ghost use Rattle.sheets.specs.Model.{blank, lane-record, teacher-record};
 ghost use Rattle.sheets.specs.Read.{sheets-of, reading};
-ghost use Rattle.sheets.specs.Tables.{tables-model, posts-sheet, staff-sheet};
+ghost use Rattle.sheets.specs.Tables.{tables-model, posts-sheet, staff-sheet, rewished};
 ghost use Rattle.sheets.specs.Written.{writing};
 use super::Sheets;
 use super::super::posts::read_posts;
@@ -21,6 +21,8 @@ use super::super::refusals::WriteRefusal;
 use super::super::staff::read_staff;
 use super::super::writes::put_posts;
 use super::super::writes::put_staff;
+use super::super::wishes::wishes_ok;
+use bounded::BoundedList;
 use lines::Fault;
 use std::alloc::AllocError;
 use std::alloc::Global;
@@ -129,5 +131,21 @@ impl Sheets {
         ensures few { λ r. ⌜ length (now r) ≤ 200 ⌝ }
     {
         self.teachers.as_slice()
+    }
+
+    // Gives the teacher at the index another wish list, and answers true; where there is no such teacher, or the list is not acceptable,
+    // nothing changes and the answer is false.
+    pub fn rewish(&mut self, teacher: usize, wishes: &[u16]) -> bool
+        ensures { λ r. ⌜ (r, model-of (now (self .exit))) ≡ rewished (model-of (now (self .entry))) teacher (now (wishes .entry)) ⌝ }
+    {
+        if teacher >= self.teachers.len() {
+            return false;
+        }
+        if !wishes_ok(self.schools, wishes) {
+            return false;
+        }
+        let record = &mut self.teachers[teacher];
+        record.wish = BoundedList::copied(wishes);
+        true
     }
 }

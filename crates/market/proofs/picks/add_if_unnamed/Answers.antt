@@ -6,7 +6,7 @@ use Rattle.bounded.specs.Listed.{listed}
 use Rattle.bounded.proofs.Lengths.{listed-within}
 use Rattle.sheets.specs.Model.{lane-record, teacher-record}
 use Rattle.market.specs.Tables.{person, atSchool}
-use Rattle.market.proofs.Appending.{same-front}
+use Rattle.bounded.proofs.Fronts.{same-front}
 use Rattle.market.proofs.picks.add_if_unnamed.Needs as need
 
 pub returns-then-holds : need.returns-then-holds

@@ -10,7 +10,7 @@ use Rattle.bounded.proofs.Lengths.{listed-within}
 use Rattle.sheets.specs.Model.{lane-record, teacher-record, LaneRecord}
 use Rattle.market.specs.Passing.{passes, passAt}
 use Rattle.market.specs.Tables.{person, no-lane}
-use Rattle.market.proofs.Appending.{same-front, push-front}
+use Rattle.bounded.proofs.Fronts.{same-front, push-front}
 use Rattle.market.proofs.picks.add_lane.Needs as need
 
 pub returns-then-not-passes : need.returns-then-not-passes

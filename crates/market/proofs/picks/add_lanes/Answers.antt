@@ -10,7 +10,8 @@ use Rattle.sheets.specs.Model.{lane-record, teacher-record}
 use Rattle.market.specs.Lists.{joinTo}
 use Rattle.market.specs.Passing.{passAt}
 use Rattle.market.specs.Tables.{person}
-use Rattle.market.proofs.Appending.{same-front, more-front, join-start, join-next}
+use Rattle.bounded.proofs.Fronts.{same-front, more-front}
+use Rattle.market.proofs.Appending.{join-start, join-next}
 use Rattle.market.proofs.picks.add_lanes.Needs as need
 
 pub loop-l-holds : need.loop-l-holds

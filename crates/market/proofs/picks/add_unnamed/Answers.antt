@@ -10,7 +10,8 @@ use Rattle.lines.specs.Entries.{has}
 use Rattle.sheets.specs.Model.{lane-record, teacher-record}
 use Rattle.market.specs.Lists.{gather}
 use Rattle.market.specs.Tables.{person, atSchool, unnamed}
-use Rattle.market.proofs.Appending.{same-front, more-front, gather-none, join-start, unnamed-more}
+use Rattle.bounded.proofs.Fronts.{same-front, more-front}
+use Rattle.market.proofs.Appending.{gather-none, join-start, unnamed-more}
 use Rattle.market.proofs.picks.add_unnamed.Needs as need
 
 pub loop-k-holds : need.loop-k-holds

@@ -9,7 +9,8 @@ use Rattle.bounded.proofs.Lengths.{listed-within}
 use Rattle.sheets.specs.Model.{lane-record, teacher-record}
 use Rattle.market.specs.Lists.{gather}
 use Rattle.market.specs.Tables.{person, atSchool}
-use Rattle.market.proofs.Appending.{same-front, more-front, gather-none, gather-more}
+use Rattle.bounded.proofs.Fronts.{same-front, more-front}
+use Rattle.market.proofs.Appending.{gather-none, gather-more}
 use Rattle.market.proofs.picks.add_wished.Needs as need
 
 pub loop-s-holds : need.loop-s-holds
