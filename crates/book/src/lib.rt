@@ -1,0 +1,7 @@
+// The book of a round: its tables, ranks, pick lists and cutoffs, in memory that was had before.
+mod book;
+mod ranks;
+pub use book::Book;
+pub use ranks::Ranks;
+pub use ranks::fill::rank_all;
+
