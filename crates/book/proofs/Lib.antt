@@ -1,3 +1,5 @@
 pub mod Blanks
 pub mod RankTable
 pub mod Changes
+pub mod RanksAre
+pub mod Wishing

@@ -7,8 +7,8 @@ use lib.ListN.{length, getD}
 use Rattle.std.specs.declared.option.Option.{Option}
 use Rattle.matching.specs.Groups.{Group}
 use Rattle.matching.specs.Log.{State, opened, picks, put}
-use Rattle.matching.specs.Market.{Board, clears, offer}
-use Rattle.market.specs.Tables.{Tables, person, personAt, pickOf, wishes-of}
+use Rattle.matching.specs.Market.{Board, boardOf, clears, offer}
+use Rattle.market.specs.Tables.{Tables, person, personAt, pickOf, wishes-of, tables-of, marketOf}
 use Rattle.sheets.specs.Model.{PostsModel, TeacherRecord, SheetsModel, blank}
 use Rattle.sheets.specs.Ranges.{wish-ok}
 use Rattle.sheets.specs.Tables.{with-wish}
@@ -57,6 +57,14 @@ clearsIn m = clears (boardIn anyone (m .0)) (m .1 .cuts)
 
 abbrev pub offerIn : Model → ℕ → Option ℕ
 offerIn m = offer (boardIn anyone (m .0)) (picks (boardIn anyone (m .0)) (m .1)) (m .1 .cuts)
+
+-- the ranks by bands, standing and number, as the rules have them
+abbrev pub ranks-by : (ℕ → ℕ → ℕ → Bool) → Tables → ℕ → ℕ → ℕ
+ranks-by ahead T = boardOf (marketOf ahead anyone T) .rankAt
+
+-- a round that is opened with what the sheets describe, under a standing with this meaning
+abbrev pub opening : (ℕ → ℕ → ℕ → Bool) → SheetsModel → Model
+opening ahead m = (fixed-from m (ranks-by ahead (tables-of m)), opened (wishes-of m))
 
 -- ---- how the tables are kept
 

@@ -10,11 +10,13 @@ ghost use Rattle.matching.specs.Log.{opened};
 ghost use Rattle.market.specs.Tables.{wishes-of};
 ghost use Rattle.sheets.specs.Held.{model-of};
 ghost use Rattle.book.specs.Held.{bookModel};
-ghost use Rattle.book.specs.Model.{unopened, fixed-from, rank-in, picks-of, lifted, wished, closed};
+ghost use Rattle.book.specs.Model.{unopened, fixed-from, rank-in, picks-of, opening, lifted, wished, closed};
 use super::Book;
 use crate::ranks::Ranks;
+use crate::ranks::fill::rank_all;
 use bounded::BoundedList;
 use market::pick_list;
+use matching::policy::Standing;
 use sheets::Sheets;
 use std::alloc::AllocError;
 use std::alloc::Global;
@@ -83,5 +85,29 @@ impl Book {
         ensures { λ _. ⌜ bookModel (now (self .exit)) ≡ closed (bookModel (now (self .entry))) ⌝ }
     {
         self.posted = true;
+    }
+
+    // Opens a round with the desk's sheets: the ranks are worked out by asking the standing, every cutoff is 1. The desk gets the old sheets.
+    pub fn open<S: Standing>(&mut self, standing: &S, desk: &mut Sheets)
+        ensures book { λ _. ⌜ bookModel (now (self .exit)) ≡ opening (S·Standing .ahead (now (standing .entry))) (model-of (now (desk .entry))) ⌝ }
+        ensures desk { λ _. ⌜ model-of (now (desk .exit)) ≡ model-of (now (self .entry) .sheets) ⌝ }
+    {
+        rank_all(standing, desk, &mut self.ranks);
+        self.take_over(desk);
+    }
+
+    // Gives the teacher at the index another wish list, and sets every cutoff to 1; answers whether there is such a teacher and the list is
+    // acceptable, and changes nothing if not.
+    pub fn rewish(&mut self, t: usize, wishes: &[u16]) -> bool
+        ensures { λ r. ⌜ (r, bookModel (now (self .exit))) ≡ wished (bookModel (now (self .entry))) t (now (wishes .entry)) ⌝ }
+    {
+        if !self.sheets.rewish(t, wishes) {
+            return false;
+        }
+        let record = &self.sheets.teachers()[t];
+        let list = pick_list(&self.sheets, record, wishes);
+        self.picks[t] = list;
+        fill_ones(&mut self.cutoffs, self.sheets.lanes().len());
+        true
     }
 }
