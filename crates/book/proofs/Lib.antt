@@ -3,3 +3,4 @@ pub mod RankTable
 pub mod Changes
 pub mod RanksAre
 pub mod Wishing
+pub mod Asking

@@ -24,4 +24,5 @@ pub struct Book {
     ghost picked: { map listed (vec-items picks) ≡ picks-of (model-of sheets) },
 }
 
+pub mod ask;
 pub mod change;

@@ -2,6 +2,7 @@
 mod book;
 mod ranks;
 pub use book::Book;
+pub use book::ask::asker_row;
 pub use ranks::Ranks;
 pub use ranks::fill::rank_all;
 
