@@ -1,0 +1,4 @@
+mod Tallies
+mod Gathers
+mod Places
+mod Asked
