@@ -3,7 +3,7 @@ use Prim.Native.Nat.{ℕ, zero, suc, _+_, _-_, _<_, _≤_}
 use native.Mathlib.Omega.{arith}
 use native.Mathlib.Numerals.{add-one, one-add}
 use native.Mathlib.Nat.{add-zero}
-use mathlib.Core.Path.{_≡_, refl, sym, ap, _∙_, fun-ext}
+use mathlib.Core.Path.{_≡_, refl, sym, ap, ap₂, _∙_, fun-ext}
 use mathlib.Core.Logic.{_⊎_, inl, inr, _≢_}
 use mathlib.Core.Bool.{Bool, true, false, cond, not, _||_, _&&_}
 use mathlib.Core.List.{List, [], _∷_, map}
@@ -14,13 +14,16 @@ use Rattle.std.specs.declared.option.Option.{Option}
 use Rattle.std.specs.declared.option.Option.the-variants.{Some, None}
 use Rattle.std.specs.declared.result.Result.{Result}
 use Rattle.std.specs.declared.result.Result.the-variants.{Ok, Err}
-use Rattle.std.proofs.shelf.Tests.{cond-true, cond-false, and-left, and-right, and-from, not-from-true, not-from-false, ltb-true, leb-true, and-parts, cases-eq, cases-lt, cases-bool, lt-ltb, le-ltb, eq-eqb, ne-eqb}
-use Rattle.matching.specs.Count.{count}
+use Rattle.std.proofs.shelf.Lists.{length-map}
+use Rattle.std.proofs.shelf.Tests.{cond-true, cond-false, and-left, and-right, and-from, not-from-true, not-from-false, ltb-true, leb-true, and-parts, cases-eq, cases-lt, cases-bool, both-ways, lt-ltb, le-ltb, eq-eqb, ne-eqb}
+use Rattle.matching.specs.Count.{count, sumTo}
 use Rattle.matching.specs.Groups.{Group}
 use Rattle.matching.specs.Log.{State, Call, wish, press, sweep, settle, post, picks, within, accepted, done, after, pressed, onSome, settled, presses, raise, put}
 use Rattle.matching.specs.Market.{Board}
 use Rattle.matching.proofs.Wished.{after-yes, after-no}
-use Rattle.book.specs.Model.{Fixed, Model, boardIn, with-cuts}
+use Rattle.market.specs.Tables.{person}
+use Rattle.sheets.specs.Ranges.{wish-ok}
+use Rattle.book.specs.Model.{Fixed, Model, boardIn, with-cuts, wished}
 use Rattle.round.specs.declared.answers.Refusal.{Refusal}
 use Rattle.round.specs.declared.answers.Refusal.the-variants.{Posted, NoTeacher, BadWishes, NoLane, NotOverAsked, OverAsked}
 use Rattle.round.specs.declared.answers.Settled.{Settled}
@@ -220,3 +223,45 @@ module _ (family : ℕ → Group → Bool) where
         → _≡_ {A = Result (Unit {0}) Refusal × Model} (Ok tt, (m .0, record { wishes = put (m .1 .wishes) (n - 1) w; cuts = λ _. 1; posted = m .1 .posted })) (wishCall family n w m)
     wish-yes h k o = leaves m _ _ _ _ (sym (cond-false _ _ _ h ∙ cond-true _ _ _ k ∙ cond-true _ _ _ o))
         (sym (after-yes (bd m) (m .1) (wish n w) (and-from _ _ (not-from-false _ h) (and-from _ _ k o))))
+
+-- the standing and the limit stay
+pub same-place : {A S L : Type 0} (a : A) (s s′ : S) (l l′ : L) (n : Model) → s ≡ s′ → l ≡ l′
+    → _≡_ {A = A × PlaceModel S L} (a, record { standing = s; limit = l; round = n }) (a, record { standing = s′; limit = l′; round = n })
+same-place {A = A} {S = S} {L = L} a s s′ l l′ n p q =
+    ap₂ {C = A × PlaceModel S L} (λ (x : S) (y : L). (a, record { standing = x; limit = y; round = n })) p q
+
+-- what the book's answer to a wish says
+module _ (m x : Model) (n : ℕ) (w : List ℕ) (inside : within n (length (m .0 .staff)) ≡ true) where
+  abbrev asked : Bool
+  asked = ltb (n - 1) (length (m .0 .staff)) && wish-ok (m .0 .posts .schools) w
+
+  abbrev granted : Model
+  granted = (m .0, record { wishes = put (m .1 .wishes) (n - 1) w; cuts = λ _. 1; posted = m .1 .posted })
+
+  there : ltb (n - 1) (length (m .0 .staff)) ≡ true
+  there = lt-ltb (n - 1) (length (m .0 .staff)) (omega (arith, within-low n (length (m .0 .staff)) inside, within-high n (length (m .0 .staff)) inside))
+
+  asked-is : asked ≡ wish-ok (m .0 .posts .schools) w
+  asked-is = ap (λ b. b && wish-ok (m .0 .posts .schools) w) there
+
+  pub wish-granted : _≡_ {A = Bool × Model} (true, x) (wished m (n - 1) w) → (x ≡ granted) × (wish-ok (m .0 .posts .schools) w ≡ true)
+  wish-granted e = by (wish-ok (m .0 .posts .schools) w) refl
+    where
+      by : (b : Bool) → wish-ok (m .0 .posts .schools) w ≡ b → (x ≡ granted) × (wish-ok (m .0 .posts .schools) w ≡ true)
+      by true h = (ap (λ (p : Bool × Model). p .1) (e ∙ cond-true asked (true, granted) (false, m) (asked-is ∙ h)), h)
+      by false h = absurd (both-ways true (ap (λ (p : Bool × Model). p .0) (e ∙ cond-false asked (true, granted) (false, m) (asked-is ∙ h))) refl)
+
+  pub wish-refused : _≡_ {A = Bool × Model} (false, x) (wished m (n - 1) w) → (x ≡ m) × (wish-ok (m .0 .posts .schools) w ≡ false)
+  wish-refused e = by (wish-ok (m .0 .posts .schools) w) refl
+    where
+      by : (b : Bool) → wish-ok (m .0 .posts .schools) w ≡ b → (x ≡ m) × (wish-ok (m .0 .posts .schools) w ≡ false)
+      by false h = (ap (λ (p : Bool × Model). p .1) (e ∙ cond-false asked (true, granted) (false, m) (asked-is ∙ h)), h)
+      by true h = absurd (both-ways true (sym (ap (λ (p : Bool × Model). p .0) (e ∙ cond-true asked (true, granted) (false, m) (asked-is ∙ h)))) refl)
+
+-- the teachers of the board are those of the staff
+pub teachers-are : (m : Model) (n : ℕ) (b : Bool) → within n (length (m .0 .staff)) ≡ b → within n (length (map person (m .0 .staff))) ≡ b
+teachers-are m n b h = ap (within n) (length-map (m .0 .staff) person) ∙ h
+
+pub count-none : (p : ℕ → Bool) → count p 0 ≡ 0
+unfolding sumTo
+count-none p = refl

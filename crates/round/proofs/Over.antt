@@ -134,3 +134,6 @@ module _ (p : ℕ → Bool) where
 
   pub least-hit : (i n : ℕ) → least p i ≡ None → p i ≡ true → i < n → least p n ≡ Some i
   least-hit i n h e k = let q : n ≡ suc i + (n - suc i) = omega arith in ap (least p) q ∙ least-stays (suc i) i (n - suc i) (least-next i true h e)
+
+pub book-cut : (b : Book) (family : ℕ → Group → Bool) → ((lane : ℕ) → family lane nobody ≡ true) → (l : ℕ) → overIn family (bookModel b) l ≡ true → bookModel b .1 .cuts l ≤ 201
+book-cut b family empty l e = over-cut family (bookModel b) empty (length (model-of (b .sheets) .teachers)) (offers-past b) (ranks-small b) l e
