@@ -1,2 +1,3 @@
 pub mod Over
 pub mod Answering
+pub mod Opening
