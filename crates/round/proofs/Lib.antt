@@ -1,3 +1,4 @@
 pub mod Over
 pub mod Answering
 pub mod Opening
+pub mod Logging

@@ -7,6 +7,8 @@ ghost use Rattle.sheets.specs.Read.{sheets-of};
 ghost use Rattle.round.specs.Calls.{left};
 ghost use Rattle.round.specs.Held.{placeOf, onPlace, PlaceModel};
 ghost use Rattle.round.specs.Log.{callOf, answerCall, openCall};
+ghost use Rattle.round.specs.Promise.{callsOf, answersOf, LogKept};
+ghost use Rattle.round.specs.Running.{ranPlace, AnsweredTo};
 use super::Place;
 use crate::log::Answer;
 use crate::log::Command;
@@ -40,12 +42,27 @@ impl<S: Standing, L: Limit> Place<S, L> {
         }
     }
 
+    // Carries out the calls of the entries, one after the other, and writes down what each answered.
     fn carry_out_all(&mut self, entries: &mut [Entry<'_>])
+        ensures place { λ _. ⌜ placeOf (now (self .exit)) ≡ ranPlace (L·Limit .family) (placeOf (now (self .entry))) (callsOf (now (entries .entry))) ⌝ }
+        ensures calls { λ _. ⌜ callsOf (now (entries .exit)) ≡ callsOf (now (entries .entry)) ⌝ }
+        ensures answers { λ _. ⌜ AnsweredTo (L·Limit .family (now (self .entry) .limit)) (bookModel (now (self .entry) .book)) (callsOf (now (entries .entry))) (length (callsOf (now (entries .entry)))) (answersOf (now (entries .exit))) ⌝ }
     {
         for i in 0..entries.len() {
             let call = entries[i].call;
             let answer = self.carry_out(call);
             entries[i].answer = answer;
         }
+    }
+
+    // Opens a round from two sheets and carries out the calls of the entries, in whatever number and order, writing down what each of them
+    // answered. At every line of the log each teacher's offer is at least as good as what any fair assignment gives; the offers are a fair
+    // assignment once no lane is over-asked; and where there is room for the incumbents, each has an offer.
+    pub fn keep_log(&mut self, desk: &mut Sheets, posts: &[u8], staff: &[u8], entries: &mut [Entry<'_>]) -> Result<(), Fault>
+        ensures { λ r. ⌜ LogKept (S·Standing .ahead) (L·Limit .family) (now (posts .entry)) (now (staff .entry)) (placeOf (now (self .entry))) (placeOf (now (self .exit))) (now (entries .entry)) (now (entries .exit)) r ⌝ }
+    {
+        self.open(desk, posts, staff)?;
+        self.carry_out_all(entries);
+        Ok(())
     }
 }
