@@ -60,6 +60,16 @@ impl Book {
         Ok(Book { sheets, ranks, picks, cutoffs, posted: true })
     }
 
+    // Forgets the round: nothing is opened then.
+    pub fn clear(&mut self)
+        ensures { λ _. ⌜ bookModel (now (self .exit)) ≡ unopened ⌝ }
+    {
+        self.sheets.clear();
+        self.picks.clear();
+        self.cutoffs.clear();
+        self.posted = true;
+    }
+
     // Takes the desk's sheets and gives its own in return: an open round with every cutoff 1. The ranks stay as they are.
     fn take_over(&mut self, desk: &mut Sheets)
         ensures book { λ _. ⌜ bookModel (now (self .exit)) ≡ (fixed-from (model-of (now (desk .entry))) (rank-in (vec-items (now (self .entry) .ranks .table)) (length (model-of (now (desk .entry)) .posts .lanes)) (length (model-of (now (desk .entry)) .teachers))), opened (wishes-of (model-of (now (desk .entry))))) ⌝ }

@@ -3,6 +3,7 @@ ghost use mathlib.Core.Path.{_≡_};
 ghost use mathlib.Core.List.{map};
 ghost use lib.ListN.{length};
 ghost use Rattle.book.specs.Held.{bookModel};
+ghost use Rattle.book.specs.Model.{unopened};
 ghost use Rattle.sheets.specs.Read.{sheets-of};
 ghost use Rattle.round.specs.Calls.{left};
 ghost use Rattle.round.specs.Held.{placeOf, onPlace, PlaceModel};
@@ -20,6 +21,15 @@ use matching::policy::Standing;
 use sheets::Sheets;
 
 impl<S: Standing, L: Limit> Place<S, L> {
+    // A place that keeps the standing and the limit, with nothing opened, in memory that was had before.
+    pub fn new(standing: S, limit: L, memory: Book) -> Place<S, L>
+        ensures { λ r. ⌜ placeOf r ≡ record { standing = standing; limit = limit; round = unopened } ⌝ }
+    {
+        let mut book = memory;
+        book.clear();
+        Place { standing, limit, book }
+    }
+
     // Opens a round from two sheets, which are read on the desk; a fault is handed on whole and leaves the round as it was.
     pub fn open(&mut self, desk: &mut Sheets, posts: &[u8], staff: &[u8]) -> Result<(), Fault>
         ensures { λ r. ⌜ (r, placeOf (now (self .exit))) ≡ openCall (S·Standing .ahead) (sheets-of (now (posts .entry)) (now (staff .entry))) (placeOf (now (self .entry))) ⌝ }

@@ -49,6 +49,16 @@ impl Sheets {
         Ok(Sheets { schools: 0, subjects: 0, lanes, teachers })
     }
 
+    // Forgets what was read.
+    pub fn clear(&mut self)
+        ensures { λ _. ⌜ model-of (now (self .exit)) ≡ blank ⌝ }
+    {
+        self.lanes.clear();
+        self.teachers.clear();
+        self.schools = 0;
+        self.subjects = 0;
+    }
+
     // Reads both sheets in the place of what was here. The first fault is the answer, and nothing is here then. What is read is what the two
     // sheets describe; and where they are refused, they describe nothing.
     pub fn read(&mut self, posts: &[u8], staff: &[u8]) -> Result<(), Fault>
