@@ -25,7 +25,7 @@ use Rattle.sheets.specs.Held.{model-of}
 use Rattle.book.specs.declared.book.Book.{Book}
 use Rattle.book.specs.Held.{bookModel, fixedOf, stateOf}
 use Rattle.book.specs.Model.{Fixed, Model, unwished, anyone, boardIn, offerIn, rank-in, with-cuts, lifted}
-use Rattle.book.proofs.Asking.{no-offer}
+use Rattle.book.proofs.Asking.{no-offer, rank-no-lane}
 use Rattle.round.specs.Calls.{overIn, nextIn}
 
 module _ (family : ℕ → Group → Bool) (m : Model) where
@@ -137,3 +137,12 @@ module _ (p : ℕ → Bool) where
 
 pub book-cut : (b : Book) (family : ℕ → Group → Bool) → ((lane : ℕ) → family lane nobody ≡ true) → (l : ℕ) → overIn family (bookModel b) l ≡ true → bookModel b .1 .cuts l ≤ 201
 book-cut b family empty l e = over-cut family (bookModel b) empty (length (model-of (b .sheets) .teachers)) (offers-past b) (ranks-small b) l e
+
+-- an offer is a lane of the round
+pub offer-inside : (b : Book) (t l : ℕ) → offerIn (bookModel b) t ≡ Some l → l < length (model-of (b .sheets) .posts .lanes)
+unfolding offer
+offer-inside b t l e =
+    let c = board-clears-parts (bd anyone (bookModel b)) (stateOf b .cuts) t l (first-on (clears (bd anyone (bookModel b)) (stateOf b .cuts) t) (picks (bd anyone (bookModel b)) (stateOf b) t) l e .0) in
+    ⊎-elim (λ (a : l < length (model-of (b .sheets) .posts .lanes)). a)
+    (λ (p : length (model-of (b .sheets) .posts .lanes) ≤ l). omega (arith, c .0, rank-no-lane (vec-items (b .ranks .table)) (length (model-of (b .sheets) .posts .lanes)) (length (model-of (b .sheets) .teachers)) l t p))
+    (cases-lt l (length (model-of (b .sheets) .posts .lanes)))

@@ -4,3 +4,4 @@ pub mod Loops
 pub mod Log
 pub mod Running
 pub mod Promise
+pub mod Questions

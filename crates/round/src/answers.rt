@@ -17,6 +17,8 @@ pub enum Refusal {
     NotOverAsked,
     // a lane is over-asked
     OverAsked,
+    // the teacher is not licensed for the lane
+    NotLicensed,
 }
 
 // The presses that settle made, and whether a lane is still over-asked.
@@ -38,6 +40,7 @@ impl Refusal {
             Refusal::NoLane => 12,
             Refusal::NotOverAsked => 13,
             Refusal::OverAsked => 14,
+            Refusal::NotLicensed => 16,
         }
     }
 }

@@ -14,3 +14,4 @@ pub struct Place<S: Standing, L: Limit> {
 pub mod ask;
 pub mod calls;
 pub mod opening;
+pub mod questions;
