@@ -4,3 +4,4 @@ pub mod Changes
 pub mod RanksAre
 pub mod Wishing
 pub mod Asking
+pub mod Results

@@ -81,9 +81,9 @@ picks-of m = map (λ (t : TeacherRecord). pickOf (m .posts) (person t) (t .wish)
 abbrev pub with-cuts : State → (ℕ → ℕ) → State
 with-cuts s cut = record { wishes = s .wishes; cuts = cut; posted = s .posted }
 
--- the cutoff of lane l goes up by 1, if there is such a lane; 65535 is the end
+-- the cutoff of lane l goes up by 1, if there is such a lane; 202 is the end, which is above every rank
 abbrev pub lifted : Model → ℕ → Model
-lifted m l = (m .0, with-cuts (m .1) (λ k. cond (ltb l (length (m .0 .posts .lanes)) && eqb k l) (min (suc (m .1 .cuts k)) 65535) (m .1 .cuts k)))
+lifted m l = (m .0, with-cuts (m .1) (λ k. cond (ltb l (length (m .0 .posts .lanes)) && eqb k l) (min (suc (m .1 .cuts k)) 202) (m .1 .cuts k)))
 
 -- another wish list for the teacher at t, and every cutoff 1; nothing where there is no such teacher or the list is not acceptable
 abbrev pub wished : Model → ℕ → List ℕ → Bool × Model

@@ -1,7 +1,11 @@
 // What the program shows.
 use crate::files::SheetFiles;
 use lines::Fault;
-use sheets::Sheets;
+use round::Place;
+use rules::Points;
+use rules::PointsStanding;
+use rules::Seats;
+use rules::SeatsLimit;
 use sheets::line_text;
 use std::alloc::AllocError;
 use std::io;
@@ -46,20 +50,14 @@ pub fn show_fault(rt: &LibcRuntime, names: &SheetFiles, posts: &[u8], staff: &[u
     Err(Stop::Refused)
 }
 
-// Both sheets on the standard output.
-pub fn show_sheets(rt: &LibcRuntime, sheets: &Sheets) -> Result<(), Stop> {
+// The result sheet on the standard output.
+pub fn show_result(rt: &LibcRuntime, place: &Place<Points, Seats>) -> Result<(), Stop> {
     let mut room = vec![in rt.alloc(); 0u8; 30000]?;
-    let mut out = rt.stdout();
-    let Ok(n) = sheets.write_posts(&mut room) else {
+    let Ok(n) = place.write_result(&mut room) else {
         return Err(Stop::Memory);
     };
     if n <= room.len() {
-        out.write_all(&room[0..n])?;
-    }
-    let Ok(n) = sheets.write_staff(&mut room) else {
-        return Err(Stop::Memory);
-    };
-    if n <= room.len() {
+        let mut out = rt.stdout();
         out.write_all(&room[0..n])?;
     }
     Ok(())

@@ -25,7 +25,7 @@ use Rattle.sheets.specs.Held.{model-of}
 use Rattle.book.specs.declared.book.Book.{Book}
 use Rattle.book.specs.Held.{bookModel, fixedOf, stateOf}
 use Rattle.book.specs.Model.{Fixed, Model, unwished, anyone, boardIn, offerIn, rank-in, with-cuts, lifted}
-use Rattle.book.proofs.Asking.{no-offer, rank-no-lane}
+use Rattle.book.proofs.Asking.{no-offer}
 use Rattle.round.specs.Calls.{overIn, nextIn}
 
 module _ (family : ℕ → Group → Bool) (m : Model) where
@@ -83,10 +83,10 @@ bumped m l = (m .0, with-cuts (m .1) (pressed l (m .1 .cuts)))
 pub lifted-bumped : (m : Model) (l : ℕ) → l < length (m .0 .posts .lanes) → m .1 .cuts l ≤ 201 → lifted m l ≡ bumped m l
 lifted-bumped m l h c = ap (λ (d : ℕ → ℕ). (m .0, with-cuts (m .1) d)) (fun-ext (λ k. ⊎-elim
     (λ (e : k ≡ l).
-        cond-true (ltb l (length (m .0 .posts .lanes)) && eqb k l) (min (suc (m .1 .cuts k)) 65535) (m .1 .cuts k) (ap₂ (λ a b. a && b) (lt-ltb l (length (m .0 .posts .lanes)) h) (eq-eqb k l e))
+        cond-true (ltb l (length (m .0 .posts .lanes)) && eqb k l) (min (suc (m .1 .cuts k)) 202) (m .1 .cuts k) (ap₂ (λ a b. a && b) (lt-ltb l (length (m .0 .posts .lanes)) h) (eq-eqb k l e))
         ∙ omega (arith, ap (m .1 .cuts) e) ∙ sym (cond-true (eqb k l) (suc (m .1 .cuts k)) (m .1 .cuts k) (eq-eqb k l e)))
     (λ (n : k ≢ l).
-        cond-false (ltb l (length (m .0 .posts .lanes)) && eqb k l) (min (suc (m .1 .cuts k)) 65535) (m .1 .cuts k) (no (ltb l (length (m .0 .posts .lanes))) (eqb k l) (ne-eqb k l n))
+        cond-false (ltb l (length (m .0 .posts .lanes)) && eqb k l) (min (suc (m .1 .cuts k)) 202) (m .1 .cuts k) (no (ltb l (length (m .0 .posts .lanes))) (eqb k l) (ne-eqb k l n))
         ∙ sym (cond-false (eqb k l) (suc (m .1 .cuts k)) (m .1 .cuts k) (ne-eqb k l n)))
     (cases-eq k l)))
   where
@@ -137,12 +137,3 @@ module _ (p : ℕ → Bool) where
 
 pub book-cut : (b : Book) (family : ℕ → Group → Bool) → ((lane : ℕ) → family lane nobody ≡ true) → (l : ℕ) → overIn family (bookModel b) l ≡ true → bookModel b .1 .cuts l ≤ 201
 book-cut b family empty l e = over-cut family (bookModel b) empty (length (model-of (b .sheets) .teachers)) (offers-past b) (ranks-small b) l e
-
--- an offer is a lane of the round
-pub offer-inside : (b : Book) (t l : ℕ) → offerIn (bookModel b) t ≡ Some l → l < length (model-of (b .sheets) .posts .lanes)
-unfolding offer
-offer-inside b t l e =
-    let c = board-clears-parts (bd anyone (bookModel b)) (stateOf b .cuts) t l (first-on (clears (bd anyone (bookModel b)) (stateOf b .cuts) t) (picks (bd anyone (bookModel b)) (stateOf b) t) l e .0) in
-    ⊎-elim (λ (a : l < length (model-of (b .sheets) .posts .lanes)). a)
-    (λ (p : length (model-of (b .sheets) .posts .lanes) ≤ l). omega (arith, c .0, rank-no-lane (vec-items (b .ranks .table)) (length (model-of (b .sheets) .posts .lanes)) (length (model-of (b .sheets) .teachers)) l t p))
-    (cases-lt l (length (model-of (b .sheets) .posts .lanes)))

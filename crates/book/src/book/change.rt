@@ -81,12 +81,13 @@ impl Book {
         self.posted = false;
     }
 
-    // Raises one cutoff by 1, if there is such a lane.
+    // Raises one cutoff by 1, if there is such a lane; 202, which no rank reaches, is the end.
     pub fn raise(&mut self, l: usize)
         ensures { λ _. ⌜ bookModel (now (self .exit)) ≡ lifted (bookModel (now (self .entry))) l ⌝ }
     {
         if l < self.cutoffs.len() {
-            self.cutoffs[l] = self.cutoffs[l].saturating_add(1);
+            let next = self.cutoff(l) + 1;
+            self.cutoffs[l] = if next < 202 { next } else { 202 };
         }
     }
 

@@ -1,12 +1,14 @@
 // Questions of a round, which change nothing.
 ghost use mathlib.Core.Path.{_≡_};
-ghost use Prim.Native.Nat.{_<_};
 ghost use Rattle.book.specs.Held.{bookModel};
-ghost use Rattle.round.specs.Questions.{numbered as numberedOf, offerAsked, cutoffAsked, rankAsked, overAskedAsked};
+ghost use Rattle.book.specs.Result.{raises as raisesOf, result-sheet};
+ghost use Rattle.sheets.specs.Written.{writing};
+ghost use Rattle.round.specs.Questions.{offerAsked, cutoffAsked, rankAsked, overAskedAsked};
 use super::Place;
 use crate::answers::Refusal;
 use matching::policy::Limit;
 use matching::policy::Standing;
+use sheets::WriteRefusal;
 
 impl<S: Standing, L: Limit> Place<S, L> {
     // The teacher's offer: the number of a lane, or none.
@@ -57,5 +59,19 @@ impl<S: Standing, L: Limit> Place<S, L> {
             return Err(Refusal::NoLane);
         }
         Ok(self.over_asked((lane - 1) as usize))
+    }
+
+    // The raises of the round: over all lanes, the cutoff less 1.
+    pub fn raises(&self) -> u16
+        ensures { λ r. ⌜ r ≡ raisesOf (bookModel (now (self .entry) .book)) ⌝ }
+    {
+        self.book.raises()
+    }
+
+    // Writes the result sheet into the buffer, and answers its length. A short buffer is left as it is.
+    pub fn write_result(&self, buf: &mut [u8]) -> Result<usize, WriteRefusal>
+        ensures { λ r. ⌜ (r, now (buf .exit)) ≡ writing (result-sheet (bookModel (now (self .entry) .book))) (now (buf .entry)) ⌝ }
+    {
+        self.book.write_result(buf)
     }
 }

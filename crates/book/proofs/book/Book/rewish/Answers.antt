@@ -16,7 +16,7 @@ pub ghost-self : need.ghost-self
 ghost-self c =
     let m = model-of (c .args .self .now .sheets) in
     let s = said-no m (c .args .t) (c .args .wishes .now) (model-of (c .rewish .last .self)) (c .if-not-rewish .ensures tt) in
-    (c .args .self .now .room, (c .args .self .now .sized ∙ ap (λ (x : SheetsModel). length (x .posts .lanes)) (sym (s .1)), (c .args .self .now .picked ∙ ap picks-of (sym (s .1)), tt)))
+    (c .args .self .now .room, (c .args .self .now .sized ∙ ap (λ (x : SheetsModel). length (x .posts .lanes)) (sym (s .1)), (c .args .self .now .low, (c .args .self .now .picked ∙ ap picks-of (sym (s .1)), tt))))
 
 pub returns-then-not-rewish : need.returns-then-not-rewish
 returns-then-not-rewish c =
@@ -52,7 +52,7 @@ ghost-self-2 c =
       (b .room .0, omega arith),
       (
         omega (arith, c .fill-ones .last .cutoffs .ok .0, ap length (c .fill-ones .ensures .value), length-replicate {A = ℕ} (length (c .lanes .result .now)) 1, length-map (c .lanes .result .now) lane-record, ap length (c .lanes .ensures .value)),
-        (picks-after m (c .args .t) (c .args .wishes .now) (s .0) few (vec-items (b .picks)) (b .picked) n (s .1) (c .teachers .result .now) (c .teachers .ensures .value) (c .pick-list-list .result) (c .index-teachers-t .result) (c .index-teachers-t .is) (c .pick-list-list .ensures), tt),
+        (λ l. omega (arith, ap (λ (f : ℕ → ℕ). f l) (ones (length (c .lanes .result .now)) (vec-items (c .fill-ones .last .cutoffs)) (c .fill-ones .ensures .value))), (picks-after m (c .args .t) (c .args .wishes .now) (s .0) few (vec-items (b .picks)) (b .picked) n (s .1) (c .teachers .result .now) (c .teachers .ensures .value) (c .pick-list-list .result) (c .index-teachers-t .result) (c .index-teachers-t .is) (c .pick-list-list .ensures), tt)),
       ),
     )
 
