@@ -20,6 +20,8 @@ pub enum Stop {
     Memory,
     // a stream could not be read or written
     Stream,
+    // a lane is still over-asked
+    Unsettled,
 }
 
 pub impl From<AllocError> for Stop as StopFromAllocError {
