@@ -15,3 +15,4 @@ pub mod ask;
 pub mod calls;
 pub mod opening;
 pub mod questions;
+pub mod wishing;

@@ -1,6 +1,6 @@
 // The calls of a round.
 ghost use mathlib.Core.Path.{_≡_};
-ghost use Rattle.round.specs.Calls.{pressCall, settleCall, sweepCall, postCall, wishCall};
+ghost use Rattle.round.specs.Calls.{pressCall, settleCall, sweepCall, postCall};
 ghost use Rattle.round.specs.Held.{placeOf, onPlace};
 use super::Place;
 use crate::answers::Refusal;
@@ -19,11 +19,11 @@ impl<S: Standing, L: Limit> Place<S, L> {
         if !self.has_lane(lane) {
             return Err(Refusal::NoLane);
         }
-        let l = (lane - 1) as usize;
-        if !self.over_asked(l) {
+        let at = (lane - 1) as usize;
+        if !self.over_asked(at) {
             return Err(Refusal::NotOverAsked);
         }
-        self.book.raise(l);
+        self.book.raise(at);
         Ok(())
     }
 
@@ -73,22 +73,6 @@ impl<S: Standing, L: Limit> Place<S, L> {
             return Err(Refusal::OverAsked);
         }
         self.book.close();
-        Ok(())
-    }
-
-    // Replaces one teacher's wish list, and sets every cutoff to 1.
-    pub fn wish(&mut self, teacher: u16, wishes: &[u16]) -> Result<(), Refusal>
-        ensures { λ r. ⌜ (r, placeOf (now (self .exit))) ≡ onPlace (L·Limit .family) (λ family. wishCall family teacher (now (wishes .entry))) (placeOf (now (self .entry))) ⌝ }
-    {
-        if self.book.is_posted() {
-            return Err(Refusal::Posted);
-        }
-        if !self.has_teacher(teacher) {
-            return Err(Refusal::NoTeacher);
-        }
-        if !self.book.rewish((teacher - 1) as usize, wishes) {
-            return Err(Refusal::BadWishes);
-        }
         Ok(())
     }
 }
