@@ -25,9 +25,9 @@ module _ (ahead : ℕ → ℕ → ℕ → Bool) (lane : ℕ) (bands : List ℕ) 
   pub rank-high : (t : ℕ) → rankBy ahead lane bands t ≤ 201
   rank-high t = ⊎-elim
       (λ (l : t < length bands). ⊎-elim
-        (λ (z : getD bands t 0 ≡ 0). omega (arith, rank-none ahead lane bands t z))
-        (λ (n : getD bands t 0 ≢ 0). omega (arith, rank-some ahead lane bands t (omega arith) n, behind-high ahead lane bands t (people bands)))
-        (cases-eq (getD bands t 0) 0))
+      (λ (z : getD bands t 0 ≡ 0). omega (arith, rank-none ahead lane bands t z))
+      (λ (n : getD bands t 0 ≢ 0). omega (arith, rank-some ahead lane bands t (omega arith) n, behind-high ahead lane bands t (people bands)))
+      (cases-eq (getD bands t 0) 0))
       (λ (g : length bands ≤ t). omega (arith, rank-past t g))
       (cases-lt t (length bands))
 
@@ -54,18 +54,18 @@ set-none old l row k u h = sym (cond-false (eqb k l && ltb u 0) (getD row u 0) (
 pub set-more : (old : List ℕ) (l : ℕ) (row : List ℕ) (t : ℕ) (new : List ℕ) → t < 200 → l * 200 + t < length new → SetTo old l row t new → SetTo old l row (t + 1) (set new (l * 200 + t) (getD row t 0))
 set-more old l row t new lt in′ h k u hu = ⊎-elim
     (λ (e : k ≡ l). ⊎-elim
-      (λ (f : u ≡ t).
-          let place : k * 200 + u ≡ l * 200 + t = omega arith in
-          ap (λ i. getD (set new (l * 200 + t) (getD row t 0)) i 0) place ∙ getD-set-same new (l * 200 + t) (getD row t 0) 0 in′
-          ∙ ap (λ i. getD row i 0) (sym f) ∙ sym (cond-true (eqb k l && ltb u (t + 1)) (getD row u 0) (getD old (k * 200 + u) 0) (ap₂ (λ a b. a && b) (eq-eqb k l e) (lt-ltb u (t + 1) (omega arith)))))
-      (λ (n : u ≢ t).
-          let place : k * 200 + u ≢ l * 200 + t = λ q. n (omega arith) in
-          getD-set-other new (l * 200 + t) (k * 200 + u) (getD row t 0) 0 place ∙ h k u hu ∙ ap (λ b. cond (eqb k l && b) (getD row u 0) (getD old (k * 200 + u) 0)) (same n))
-      (cases-eq u t))
+    (λ (f : u ≡ t).
+    let place : k * 200 + u ≡ l * 200 + t = omega arith in
+    ap (λ i. getD (set new (l * 200 + t) (getD row t 0)) i 0) place ∙ getD-set-same new (l * 200 + t) (getD row t 0) 0 in′
+    ∙ ap (λ i. getD row i 0) (sym f) ∙ sym (cond-true (eqb k l && ltb u (t + 1)) (getD row u 0) (getD old (k * 200 + u) 0) (ap₂ (λ a b. a && b) (eq-eqb k l e) (lt-ltb u (t + 1) (omega arith)))))
+    (λ (n : u ≢ t).
+    let place : k * 200 + u ≢ l * 200 + t = λ q. n (omega arith) in
+    getD-set-other new (l * 200 + t) (k * 200 + u) (getD row t 0) 0 place ∙ h k u hu ∙ ap (λ b. cond (eqb k l && b) (getD row u 0) (getD old (k * 200 + u) 0)) (same n))
+    (cases-eq u t))
     (λ (n : k ≢ l).
-        let place : k * 200 + u ≢ l * 200 + t = λ q. n (omega arith) in
-        getD-set-other new (l * 200 + t) (k * 200 + u) (getD row t 0) 0 place ∙ h k u hu ∙ ap (λ a. cond (a && ltb u t) (getD row u 0) (getD old (k * 200 + u) 0)) (ne-eqb k l n)
-        ∙ sym (ap (λ a. cond (a && ltb u (t + 1)) (getD row u 0) (getD old (k * 200 + u) 0)) (ne-eqb k l n)))
+    let place : k * 200 + u ≢ l * 200 + t = λ q. n (omega arith) in
+    getD-set-other new (l * 200 + t) (k * 200 + u) (getD row t 0) 0 place ∙ h k u hu ∙ ap (λ a. cond (a && ltb u t) (getD row u 0) (getD old (k * 200 + u) 0)) (ne-eqb k l n)
+    ∙ sym (ap (λ a. cond (a && ltb u (t + 1)) (getD row u 0) (getD old (k * 200 + u) 0)) (ne-eqb k l n)))
     (cases-eq k l)
   where
     same : u ≢ t → ltb u t ≡ ltb u (t + 1)

@@ -47,12 +47,12 @@ module _ (ahead : ℕ → ℕ → ℕ → Bool) (T : Tables) (few : length (T .p
   pub told-licensed : (t : ℕ) → licensedFor T t l ≡ told bands t
   told-licensed t = ⊎-elim
       (λ (h : t < length (T .people)).
-          ap (λ b. b && (ltb l (length (T .posts .lanes)) && teaches (personAt T t) k)) (lt-ltb t (length (T .people)) h)
-          ∙ ap (λ b. b && teaches (personAt T t) k) (lt-ltb l (length (T .posts .lanes)) hl)
-          ∙ sym (ap (λ b. b && not (eqb (getD bands t 0) 0)) (lt-ltb t 200 (omega arith)) ∙ ap (λ n. not (eqb n 0)) (getD-map (bandIn k) (T .people) t stranger 0 h) ∙ band-tells (personAt T t) k))
+      ap (λ b. b && (ltb l (length (T .posts .lanes)) && teaches (personAt T t) k)) (lt-ltb t (length (T .people)) h)
+      ∙ ap (λ b. b && teaches (personAt T t) k) (lt-ltb l (length (T .posts .lanes)) hl)
+      ∙ sym (ap (λ b. b && not (eqb (getD bands t 0) 0)) (lt-ltb t 200 (omega arith)) ∙ ap (λ n. not (eqb n 0)) (getD-map (bandIn k) (T .people) t stranger 0 h) ∙ band-tells (personAt T t) k))
       (λ (h : length (T .people) ≤ t).
-          ap (λ b. b && (ltb l (length (T .posts .lanes)) && teaches (personAt T t) k)) (le-ltb t (length (T .people)) h)
-          ∙ sym (ap (λ n. ltb t 200 && not (eqb n 0)) (getD-past bands t 0 (omega (arith, long))) ∙ no (ltb t 200)))
+      ap (λ b. b && (ltb l (length (T .posts .lanes)) && teaches (personAt T t) k)) (le-ltb t (length (T .people)) h)
+      ∙ sym (ap (λ n. ltb t 200 && not (eqb n 0)) (getD-past bands t 0 (omega (arith, long))) ∙ no (ltb t 200)))
       (cases-lt t (length (T .people)))
     where
       no : (a : Bool) → (a && not (eqb 0 0)) ≡ false
@@ -66,8 +66,8 @@ module _ (ahead : ℕ → ℕ → ℕ → Bool) (T : Tables) (few : length (T .p
   pub rank-by-bands : (t : ℕ) → rankBy ahead (l + 1) bands t ≡ ranks-by ahead T l t
   rank-by-bands t = ⊎-elim
       (λ (y : licensedFor T t l ≡ true).
-          sym (rank-is ahead (l + 1) bands (marketOf ahead anyone T) l (omega (arith, long)) told-licensed (λ a b. refl) t (sym (told-licensed t) ∙ y))
-          ∙ sym (cond-true (licensedFor T t l) (rank (marketOf ahead anyone T) l t) 0 y))
+      sym (rank-is ahead (l + 1) bands (marketOf ahead anyone T) l (omega (arith, long)) told-licensed (λ a b. refl) t (sym (told-licensed t) ∙ y))
+      ∙ sym (cond-true (licensedFor T t l) (rank (marketOf ahead anyone T) l t) 0 y))
       (λ (n : licensedFor T t l ≡ false). none t (sym (told-licensed t) ∙ n) ∙ sym (cond-false (licensedFor T t l) (rank (marketOf ahead anyone T) l t) 0 n))
       (cases-bool (licensedFor T t l))
 
@@ -75,16 +75,16 @@ pub ranks-are : (ahead : ℕ → ℕ → ℕ → Bool) (T : Tables) (n : ℕ) (t
     → rank-in table (length (T .posts .lanes)) n ≡ ranks-by ahead T
 ranks-are ahead T n table few same h = fun-ext (λ l. fun-ext (λ t. ⊎-elim
     (λ (a : l < length (T .posts .lanes)). ⊎-elim
-      (λ (b : t < n).
-          cond-true (ltb l (length (T .posts .lanes)) && ltb t n) (getD table (l * 200 + t) 0) 0 (ap₂ (λ x y. x && y) (lt-ltb l (length (T .posts .lanes)) a) (lt-ltb t n b))
-          ∙ h l t a (omega arith) ∙ rank-by-bands ahead T few l a t)
-      (λ (b : n ≤ t).
-          cond-false (ltb l (length (T .posts .lanes)) && ltb t n) (getD table (l * 200 + t) 0) 0 (ap₂ (λ x y. x && y) (lt-ltb l (length (T .posts .lanes)) a) (le-ltb t n b))
-          ∙ sym (cond-false (licensedFor T t l) (rank (marketOf ahead anyone T) l t) 0 (ap (λ x. x && (ltb l (length (T .posts .lanes)) && teaches (personAt T t) (laneAt T l .subject))) (le-ltb t (length (T .people)) (omega arith)))))
-      (cases-lt t n))
+    (λ (b : t < n).
+    cond-true (ltb l (length (T .posts .lanes)) && ltb t n) (getD table (l * 200 + t) 0) 0 (ap₂ (λ x y. x && y) (lt-ltb l (length (T .posts .lanes)) a) (lt-ltb t n b))
+    ∙ h l t a (omega arith) ∙ rank-by-bands ahead T few l a t)
+    (λ (b : n ≤ t).
+    cond-false (ltb l (length (T .posts .lanes)) && ltb t n) (getD table (l * 200 + t) 0) 0 (ap₂ (λ x y. x && y) (lt-ltb l (length (T .posts .lanes)) a) (le-ltb t n b))
+    ∙ sym (cond-false (licensedFor T t l) (rank (marketOf ahead anyone T) l t) 0 (ap (λ x. x && (ltb l (length (T .posts .lanes)) && teaches (personAt T t) (laneAt T l .subject))) (le-ltb t (length (T .people)) (omega arith)))))
+    (cases-lt t n))
     (λ (a : length (T .posts .lanes) ≤ l).
-        cond-false (ltb l (length (T .posts .lanes)) && ltb t n) (getD table (l * 200 + t) 0) 0 (ap (λ x. x && ltb t n) (le-ltb l (length (T .posts .lanes)) a))
-        ∙ sym (cond-false (licensedFor T t l) (rank (marketOf ahead anyone T) l t) 0 (no (ltb t (length (T .people))) (ltb l (length (T .posts .lanes))) (teaches (personAt T t) (laneAt T l .subject)) (le-ltb l (length (T .posts .lanes)) a))))
+    cond-false (ltb l (length (T .posts .lanes)) && ltb t n) (getD table (l * 200 + t) 0) 0 (ap (λ x. x && ltb t n) (le-ltb l (length (T .posts .lanes)) a))
+    ∙ sym (cond-false (licensedFor T t l) (rank (marketOf ahead anyone T) l t) 0 (no (ltb t (length (T .people))) (ltb l (length (T .posts .lanes))) (teaches (personAt T t) (laneAt T l .subject)) (le-ltb l (length (T .posts .lanes)) a))))
     (cases-lt l (length (T .posts .lanes)))))
   where
     no : (a b c : Bool) → b ≡ false → (a && (b && c)) ≡ false

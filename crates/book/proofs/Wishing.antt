@@ -67,8 +67,8 @@ module _ (m : SheetsModel) (t : ℕ) (w : List ℕ) where
       at : (u : ℕ) → getD (set (map (λ (r : TeacherRecord). r .wish) (m .teachers)) t w) u [] ≡ cond (eqb u t) w (getD (map (λ (r : TeacherRecord). r .wish) (m .teachers)) u [])
       at u = ⊎-elim
           (λ (e : u ≡ t). ap (λ i. getD (set (map (λ (r : TeacherRecord). r .wish) (m .teachers)) t w) i []) e
-              ∙ getD-set-same (map (λ (r : TeacherRecord). r .wish) (m .teachers)) t w [] (omega (arith, teacher-in h, length-map (m .teachers) (λ (r : TeacherRecord). r .wish)))
-              ∙ sym (cond-true (eqb u t) w (getD (map (λ (r : TeacherRecord). r .wish) (m .teachers)) u []) (eq-eqb u t e)))
+          ∙ getD-set-same (map (λ (r : TeacherRecord). r .wish) (m .teachers)) t w [] (omega (arith, teacher-in h, length-map (m .teachers) (λ (r : TeacherRecord). r .wish)))
+          ∙ sym (cond-true (eqb u t) w (getD (map (λ (r : TeacherRecord). r .wish) (m .teachers)) u []) (eq-eqb u t e)))
           (λ (e : u ≢ t). getD-set-other (map (λ (r : TeacherRecord). r .wish) (m .teachers)) t u w [] e ∙ sym (cond-false (eqb u t) w (getD (map (λ (r : TeacherRecord). r .wish) (m .teachers)) u []) (ne-eqb u t e)))
           (cases-eq u t)
 
@@ -120,6 +120,6 @@ module _ (m : SheetsModel) (t : ℕ) (w : List ℕ) where
       picks-after list y e q =
           map-set listed picks t list
           ∙ ap₂ (λ (xs : List (List ℕ)) (z : List ℕ). set xs t z) picked
-            (q ∙ ap₂ (λ (s : SheetsModel) (r : TeacherRecord). take 80 (pickOf (s .posts) (person r) w)) is (ap teacher-record e ∙ after-read y) ∙ pick-short (m .posts) (person record′) w (list-ok h) few)
+          (q ∙ ap₂ (λ (s : SheetsModel) (r : TeacherRecord). take 80 (pickOf (s .posts) (person r) w)) is (ap teacher-record e ∙ after-read y) ∙ pick-short (m .posts) (person record′) w (list-ok h) few)
           ∙ sym (map-set (λ (r : TeacherRecord). pickOf (m .posts) (person r) (r .wish)) (m .teachers) t record′)
           ∙ sym (ap picks-of is)

@@ -39,14 +39,14 @@ tablesIn F = record { posts = F .posts; people = map person (F .staff) }
 
 -- the board on which the cutoffs work, under a limit with this meaning
 abbrev pub boardIn : (ℕ → Group → Bool) → Fixed → Board
-boardIn family F = record
-  { teachers = length (tablesIn F .people)
-  ; lanes = length (F .posts .lanes)
-  ; rankAt = F .ranks
-  ; fits = λ l g. family (l + 1) g
-  ; pick = λ t w. pickOf (F .posts) (personAt (tablesIn F) t) w
-  ; mayWish = λ t w. wish-ok (F .posts .schools) w
-  }
+boardIn family F = record {
+  teachers = length (tablesIn F .people);
+  lanes = length (F .posts .lanes);
+  rankAt = F .ranks;
+  fits = λ l g. family (l + 1) g;
+  pick = λ t w. pickOf (F .posts) (personAt (tablesIn F) t) w;
+  mayWish = λ t w. wish-ok (F .posts .schools) w;
+}
 
 -- offers do not ask the limit: any will do
 abbrev pub anyone : ℕ → Group → Bool

@@ -16,13 +16,21 @@ fn all_are(bytes: &[u8], b: u8) -> bool {
 }
 
 // Tells what came of writing the sheet into a buffer of bytes 7.
-fn show_answer(rt: &LibcRuntime, sheet: &[u8], buf: &[u8], answer: Result<usize, WriteRefusal>) -> io::Result<()> {
+fn show_answer(
+    rt: &LibcRuntime,
+    sheet: &[u8],
+    buf: &[u8],
+    answer: Result<usize, WriteRefusal>,
+) -> io::Result<()> {
     let size = buf.len();
     match answer {
         Ok(n) => {
             let whole = n == sheet.len() && n <= size && &buf[0..n] == sheet;
             let rest = n <= size && all_are(&buf[n..], 7);
-            println!(rt, "{n} bytes into {size}: the sheet {whole}, bytes behind untouched {rest}")
+            println!(
+                rt,
+                "{n} bytes into {size}: the sheet {whole}, bytes behind untouched {rest}"
+            )
         }
         Err(refusal) => {
             let number = refusal.number();
@@ -33,10 +41,20 @@ fn show_answer(rt: &LibcRuntime, sheet: &[u8], buf: &[u8], answer: Result<usize,
 }
 
 // Writes the sheet into a buffer of this size; the bytes are what it should be.
-fn show_write(rt: &LibcRuntime, sheets: &Sheets, sheet: u8, size: usize, bytes: &[u8]) -> io::Result<()> {
+fn show_write(
+    rt: &LibcRuntime,
+    sheets: &Sheets,
+    sheet: u8,
+    size: usize,
+    bytes: &[u8],
+) -> io::Result<()> {
     let name = sheet_name(sheet);
     let mut buf = vec![in rt.alloc(); 7u8; size]?;
-    let answer = if sheet == 2 { sheets.write_staff(&mut buf) } else { sheets.write_posts(&mut buf) };
+    let answer = if sheet == 2 {
+        sheets.write_staff(&mut buf)
+    } else {
+        sheets.write_posts(&mut buf)
+    };
     print!(rt, "{name}, ")?;
     show_answer(rt, bytes, &buf, answer)
 }
@@ -65,6 +83,9 @@ pub(crate) fn show_buffers(rt: &LibcRuntime, sheets: &mut Sheets) -> io::Result<
     show_sizes(rt, sheets, 1)?;
     show_sizes(rt, sheets, 2)?;
     let sound_pair = sheets.read(sound(1), b"").is_ok();
-    println!(rt, "the same with an empty staff sheet is read: {sound_pair}")?;
+    println!(
+        rt,
+        "the same with an empty staff sheet is read: {sound_pair}"
+    )?;
     show_blank(rt, sheets)
 }

@@ -7,7 +7,11 @@ use std::io;
 
 // Adds the number, with a comma before it unless it is the first.
 fn add(heap: Global, out: &mut String, i: u16, n: u16) -> Result<(), AllocError> {
-    let text = if i > 0 { format!(heap, ",{n}")? } else { format!(heap, "{n}")? };
+    let text = if i > 0 {
+        format!(heap, ",{n}")?
+    } else {
+        format!(heap, "{n}")?
+    };
     out.push_str(text.as_str())
 }
 
@@ -61,7 +65,11 @@ fn staff_text(heap: Global) -> Result<String, AllocError> {
     Ok(out)
 }
 
-pub(crate) fn show_largest(rt: &LibcRuntime, sheets: &mut Sheets, room: &mut [u8]) -> io::Result<()> {
+pub(crate) fn show_largest(
+    rt: &LibcRuntime,
+    sheets: &mut Sheets,
+    room: &mut [u8],
+) -> io::Result<()> {
     let posts = posts_text(rt.alloc())?;
     let staff = staff_text(rt.alloc())?;
     print!(rt, "the largest round: ")?;

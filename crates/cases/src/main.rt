@@ -7,6 +7,7 @@ mod shown;
 mod swaps;
 mod tally;
 mod wholes;
+
 use buffers::show_blank;
 use buffers::show_buffers;
 use handed::show_handed;

@@ -34,7 +34,12 @@ fn line_start(bytes: &[u8], line: usize) -> usize
 }
 
 // The sheet with the text in the place of the line.
-pub(crate) fn swapped(heap: Global, bytes: &[u8], line: usize, text: &str) -> Result<Vec<u8>, AllocError> {
+pub(crate) fn swapped(
+    heap: Global,
+    bytes: &[u8],
+    line: usize,
+    text: &str,
+) -> Result<Vec<u8>, AllocError> {
     let start = line_start(bytes, line);
     let behind = line_start(bytes, line.saturating_add(1));
     let mut out = Vec::new(heap);

@@ -23,7 +23,13 @@ fn is_blank(sheets: &Sheets) -> bool {
     matches!(posts, Ok(0)) && matches!(staff, Ok(0))
 }
 
-fn show_written(rt: &LibcRuntime, sheets: &Sheets, room: &mut [u8], posts: &[u8], staff: &[u8]) -> io::Result<()> {
+fn show_written(
+    rt: &LibcRuntime,
+    sheets: &Sheets,
+    room: &mut [u8],
+    posts: &[u8],
+    staff: &[u8],
+) -> io::Result<()> {
     let answer = sheets.write_posts(room);
     let posts_back = is_written(answer, room, posts);
     let answer = sheets.write_staff(room);
@@ -46,18 +52,31 @@ fn show_fault(rt: &LibcRuntime, posts: &[u8], staff: &[u8], fault: Fault) -> io:
         Layer::Line => "line",
         Layer::Sheet => "sheet",
     };
-    print!(rt, "refused {number}, sheet {sheet}, line {line}, place {place}, found by the {layer}, text [")?;
+    print!(
+        rt,
+        "refused {number}, sheet {sheet}, line {line}, place {place}, found by the {layer}, text ["
+    )?;
     let mut out = rt.stdout();
     out.write_all(line_text(posts, staff, sheet, place))
 }
 
 // Reads the two sheets, and shows the answer. A sound pair is written back and compared; after a fault nothing is left.
-pub(crate) fn show_reading(rt: &LibcRuntime, sheets: &mut Sheets, room: &mut [u8], posts: &[u8], staff: &[u8]) -> io::Result<()> {
+pub(crate) fn show_reading(
+    rt: &LibcRuntime,
+    sheets: &mut Sheets,
+    room: &mut [u8],
+    posts: &[u8],
+    staff: &[u8],
+) -> io::Result<()> {
     match sheets.read(posts, staff) {
         Ok(()) => show_written(rt, sheets, room, posts, staff),
         Err(fault) => {
             show_fault(rt, posts, staff, fault)?;
-            if is_blank(sheets) { println!(rt, "], then blank") } else { println!(rt, "], then NOT blank") }
+            if is_blank(sheets) {
+                println!(rt, "], then blank")
+            } else {
+                println!(rt, "], then NOT blank")
+            }
         }
     }
 }

@@ -16,7 +16,12 @@ struct Tally {
 
 impl Tally {
     fn new() -> Tally {
-        Tally { sound: 0, refused: [0; 9], lines: 0, places: 0 }
+        Tally {
+            sound: 0,
+            refused: [0; 9],
+            lines: 0,
+            places: 0,
+        }
     }
 
     fn note_fault(&mut self, fault: Fault) {
@@ -52,7 +57,11 @@ impl Tally {
 
 // Reads the bytes as the sheet, beside the other sheet of the sound pair.
 fn read_beside(sheets: &mut Sheets, sheet: u8, bytes: &[u8]) -> Result<(), Fault> {
-    if sheet == 2 { sheets.read(sound(1), bytes) } else { sheets.read(bytes, sound(2)) }
+    if sheet == 2 {
+        sheets.read(sound(1), bytes)
+    } else {
+        sheets.read(bytes, sound(2))
+    }
 }
 
 // Every byte at the place of the sheet.

@@ -32,4 +32,3 @@ module _ (bs : List ℕ) (s : Spot) (k : ℕ) where
 
   pub line-past : length bs ≤ s .place → Err (fault s Unended) ≡ line-at bs s
   line-past l = rw (drop-all (s .place) bs l)
-

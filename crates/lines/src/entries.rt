@@ -82,7 +82,12 @@ pub fn single(sheet: &[u8], at: Spot, key: Key, low: u16, high: u16) -> Result<(
 }
 
 // A line with up to N numbers, each from 1 to high, and the place behind it.
-fn ranged<const N: usize>(sheet: &[u8], at: Spot, key: Key, high: u16) -> Result<(BoundedList<N>, usize), Fault>
+fn ranged<const N: usize>(
+    sheet: &[u8],
+    at: Spot,
+    key: Key,
+    high: u16,
+) -> Result<(BoundedList<N>, usize), Fault>
     ensures { λ r. ⌜ seen (λ p. (listed (p .0), p .1)) r ≡ rangedOf key N high (now (sheet .entry)) at ⌝ }
 {
     let (ns, behind) = field::<N>(sheet, at, key, 0)?;
@@ -93,7 +98,12 @@ fn ranged<const N: usize>(sheet: &[u8], at: Spot, key: Key, high: u16) -> Result
 }
 
 // The same without repeats.
-pub fn unrepeated<const N: usize>(sheet: &[u8], at: Spot, key: Key, high: u16) -> Result<(BoundedList<N>, usize), Fault>
+pub fn unrepeated<const N: usize>(
+    sheet: &[u8],
+    at: Spot,
+    key: Key,
+    high: u16,
+) -> Result<(BoundedList<N>, usize), Fault>
     ensures { λ r. ⌜ seen (λ p. (listed (p .0), p .1)) r ≡ unrepeatedOf key N high (now (sheet .entry)) at ⌝ }
 {
     let (ns, behind) = ranged::<N>(sheet, at, key, high)?;
@@ -104,7 +114,12 @@ pub fn unrepeated<const N: usize>(sheet: &[u8], at: Spot, key: Key, high: u16) -
 }
 
 // The further licences of a teacher with this main subject, and the place behind their line.
-pub fn licences(sheet: &[u8], at: Spot, main: u16, high: u16) -> Result<(BoundedList<9>, usize), Fault>
+pub fn licences(
+    sheet: &[u8],
+    at: Spot,
+    main: u16,
+    high: u16,
+) -> Result<(BoundedList<9>, usize), Fault>
     ensures { λ r. ⌜ seen (λ p. (listed (p .0), p .1)) r ≡ licencesOf main high (now (sheet .entry)) at ⌝ }
 {
     let (ns, behind) = ranged::<9>(sheet, at, Key::Also, high)?;

@@ -61,7 +61,10 @@ impl FaultKind {
         ensures { λ r. ⌜ r ≡ layer-of self ⌝ }
     {
         match self {
-            FaultKind::WrongKey | FaultKind::Malformed | FaultKind::OutOfRange | FaultKind::Disordered => Layer::Line,
+            FaultKind::WrongKey
+            | FaultKind::Malformed
+            | FaultKind::OutOfRange
+            | FaultKind::Disordered => Layer::Line,
             _ => Layer::Sheet,
         }
     }
@@ -72,6 +75,12 @@ impl Spot {
     pub fn fault(self, kind: FaultKind) -> Fault
         ensures { λ r. ⌜ r ≡ faultOf self kind ⌝ }
     {
-        Fault { kind, sheet: self.sheet, line: self.line, place: self.place, layer: kind.layer() }
+        Fault {
+            kind,
+            sheet: self.sheet,
+            line: self.line,
+            place: self.place,
+            layer: kind.layer(),
+        }
     }
 }

@@ -76,7 +76,18 @@ fn subjects_value(line: &[u8]) -> Option<&[u8]>
     ensures { λ r. ⌜ mapped held r ≡ after (key-bytes Key.Subjects) (now (line .entry)) ⌝ }
 {
     match line {
-        [b's', b'u', b'b', b'j', b'e', b'c', b't', b's', b'=', value @ ..] => Some(value),
+        [
+            b's',
+            b'u',
+            b'b',
+            b'j',
+            b'e',
+            b'c',
+            b't',
+            b's',
+            b'=',
+            value @ ..,
+        ] => Some(value),
         _ => None,
     }
 }
@@ -112,7 +123,18 @@ fn teachers_value(line: &[u8]) -> Option<&[u8]>
     ensures { λ r. ⌜ mapped held r ≡ after (key-bytes Key.Teachers) (now (line .entry)) ⌝ }
 {
     match line {
-        [b't', b'e', b'a', b'c', b'h', b'e', b'r', b's', b'=', value @ ..] => Some(value),
+        [
+            b't',
+            b'e',
+            b'a',
+            b'c',
+            b'h',
+            b'e',
+            b'r',
+            b's',
+            b'=',
+            value @ ..,
+        ] => Some(value),
         _ => None,
     }
 }

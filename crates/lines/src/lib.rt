@@ -4,6 +4,7 @@ mod faults;
 mod keys;
 mod lines;
 mod writes;
+
 pub use entries::all_in_range;
 pub use entries::distinct;
 pub use entries::holds;

@@ -30,9 +30,13 @@ impl<'a> Line<'a> {
         ensures { λ r. ⌜ shape r ≡ shaped key (now (value .entry)) place ⌝ }
     {
         match key {
-            Key::Schools | Key::Subjects | Key::Lanes | Key::Teachers => Line::Head { value, place },
+            Key::Schools | Key::Subjects | Key::Lanes | Key::Teachers => Line::Head {
+                value,
+                place,
+            },
             Key::Lane | Key::List => Line::Lane { value, place },
-            Key::Home | Key::Main | Key::Also | Key::Wish | Key::Points | Key::Cost => Line::Teacher { value, place },
+            Key::Home | Key::Main | Key::Also | Key::Wish | Key::Points | Key::Cost =>
+                Line::Teacher { value, place },
         }
     }
 
@@ -40,7 +44,8 @@ impl<'a> Line<'a> {
         ensures { λ r. ⌜ now r ≡ value-of (shape (self .entry)) ⌝ }
     {
         match self {
-            Line::Head { value, .. } | Line::Lane { value, .. } | Line::Teacher { value, .. } => value,
+            Line::Head { value, .. } | Line::Lane { value, .. } | Line::Teacher { value, .. } =>
+                value,
         }
     }
 
@@ -48,7 +53,8 @@ impl<'a> Line<'a> {
         ensures { λ r. ⌜ r ≡ place-of (shape (self .entry)) ⌝ }
     {
         match self {
-            Line::Head { place, .. } | Line::Lane { place, .. } | Line::Teacher { place, .. } => place,
+            Line::Head { place, .. } | Line::Lane { place, .. } | Line::Teacher { place, .. } =>
+                place,
         }
     }
 }
@@ -64,7 +70,11 @@ fn line_bytes<'a>(sheet: &'a [u8], at: Spot) -> Result<&'a [u8], Fault>
     }
     let rest = &sheet[place..];
     let k = position_of(rest, b'\n');
-    if k < rest.len() { Ok(&rest[0..k]) } else { Err(at.fault(FaultKind::Unended)) }
+    if k < rest.len() {
+        Ok(&rest[0..k])
+    } else {
+        Err(at.fault(FaultKind::Unended))
+    }
 }
 
 // The line with the due key at the spot.
@@ -80,7 +90,12 @@ fn read_line<'a>(sheet: &'a [u8], at: Spot, key: Key) -> Result<Line<'a>, Fault>
 }
 
 // The numbers of the line with the due key, and the place behind the line.
-pub fn field<const N: usize>(sheet: &[u8], at: Spot, key: Key, least: usize) -> Result<(BoundedList<N>, usize), Fault>
+pub fn field<const N: usize>(
+    sheet: &[u8],
+    at: Spot,
+    key: Key,
+    least: usize,
+) -> Result<(BoundedList<N>, usize), Fault>
     ensures { λ r. ⌜ seen (λ p. (listed (p .0), p .1)) r ≡ fieldOf key least N (now (sheet .entry)) at ⌝ }
 {
     let line = read_line(sheet, at, key)?;

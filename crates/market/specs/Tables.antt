@@ -95,15 +95,15 @@ module _ (T : Tables) where
 
 -- the market, by the meaning of a standing (lane, teacher, teacher, from 1) and of a limit (lane, from 1, and group)
 abbrev pub marketOf : (ℕ → ℕ → ℕ → Bool) → (ℕ → Group → Bool) → Tables → Market
-marketOf ahead family T = record
-  { teachers = length (T .people)
-  ; lanes = length (T .posts .lanes)
-  ; licensed = licensedFor T
-  ; before = λ l. standsBefore ahead (l + 1) (bandsOf T l)
-  ; fits = λ l g. family (l + 1) g
-  ; pick = λ t w. pickOf (T .posts) (personAt T t) w
-  ; mayWish = λ t w. wish-ok (T .posts .schools) w
-  ; main = λ t. personAt T t .main
-  ; incumbent = λ t. not (newcomer (personAt T t))
-  ; subject = λ l. laneAt T l .subject
-  }
+marketOf ahead family T = record {
+  teachers = length (T .people);
+  lanes = length (T .posts .lanes);
+  licensed = licensedFor T;
+  before = λ l. standsBefore ahead (l + 1) (bandsOf T l);
+  fits = λ l g. family (l + 1) g;
+  pick = λ t w. pickOf (T .posts) (personAt T t) w;
+  mayWish = λ t w. wish-ok (T .posts .schools) w;
+  main = λ t. personAt T t .main;
+  incumbent = λ t. not (newcomer (personAt T t));
+  subject = λ l. laneAt T l .subject;
+}

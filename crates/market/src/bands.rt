@@ -30,7 +30,11 @@ fn band(p: &Teacher, subject: u16) -> u8
 fn band_in(p: &Teacher, subject: u16) -> u8
     ensures { λ r. ⌜ r ≡ bandIn subject (person (teacher-record (now (p .entry)))) ⌝ }
 {
-    if teaches(p, subject) { band(p, subject) } else { 0 }
+    if teaches(p, subject) {
+        band(p, subject)
+    } else {
+        0
+    }
 }
 
 // The bands of the teachers in a lane of the subject, one byte a teacher; bytes past the teachers are 0.
@@ -38,7 +42,11 @@ pub fn bands_of(teachers: &[Teacher], subject: u16) -> [u8; 200]
     ensures { λ r. ⌜ (length (now (teachers .entry)) ≤ 200 → take (length (now (teachers .entry))) r ≡ map (bandIn subject) (map person (map teacher-record (now (teachers .entry))))) ⌝ }
 {
     let mut bands = [0u8; 200];
-    let n = if teachers.len() < 200 { teachers.len() } else { 200 };
+    let n = if teachers.len() < 200 {
+        teachers.len()
+    } else {
+        200
+    };
     for t in 0..n {
         bands[t] = band_in(&teachers[t], subject);
     }

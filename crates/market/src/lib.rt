@@ -2,5 +2,6 @@
 mod bands;
 mod picks;
 pub mod theorems;
+
 pub use bands::bands_of;
 pub use picks::pick_list;

@@ -24,11 +24,22 @@ fn passes(p: &Teacher, school: u16, x: &Lane, main: bool) -> bool
     if x.school != school {
         return false;
     }
-    if main { x.subject == p.main } else { x.subject != p.main && holds(p.also.as_slice(), x.subject) }
+    if main {
+        x.subject == p.main
+    } else {
+        x.subject != p.main && holds(p.also.as_slice(), x.subject)
+    }
 }
 
 // Adds the lane at l, if it passes.
-fn add_lane(out: &mut BoundedList<80>, lanes: &[Lane], l: usize, p: &Teacher, school: u16, main: bool)
+fn add_lane(
+    out: &mut BoundedList<80>,
+    lanes: &[Lane],
+    l: usize,
+    p: &Teacher,
+    school: u16,
+    main: bool,
+)
     requires { ⌜ length (now lanes) ≤ 80 ⌝ ∗ ⌜ l < length (now lanes) ⌝ }
     ensures { λ _. ⌜ listed (now (out .exit)) ≡ take 80 (listed (now (out .entry)) ++ cond (passAt main (map lane-record (now (lanes .entry))) (person (teacher-record (now (p .entry)))) school l) (l ∷ []) []) ⌝ }
 {
@@ -68,7 +79,13 @@ fn add_wished(out: &mut BoundedList<80>, lanes: &[Lane], p: &Teacher, wishes: &[
 }
 
 // Adds the school's lanes, if it is not wished.
-fn add_if_unnamed(out: &mut BoundedList<80>, lanes: &[Lane], p: &Teacher, school: u16, wishes: &[u16])
+fn add_if_unnamed(
+    out: &mut BoundedList<80>,
+    lanes: &[Lane],
+    p: &Teacher,
+    school: u16,
+    wishes: &[u16],
+)
     requires { ⌜ length (now lanes) ≤ 80 ⌝ }
     ensures { λ _. ⌜ listed (now (out .exit)) ≡ take 80 (listed (now (out .entry)) ++ cond (has school (now (wishes .entry))) [] (atSchool (map lane-record (now (lanes .entry))) (person (teacher-record (now (p .entry)))) school)) ⌝ }
 {

@@ -83,14 +83,14 @@ pub record Board : Type 0 where
 
 -- the board of a market
 abbrev pub boardOf : Market → Board
-boardOf mk = record
-  { teachers = mk .teachers
-  ; lanes = mk .lanes
-  ; rankAt = λ l t. cond (mk .licensed t l) (rank mk l t) 0
-  ; fits = mk .fits
-  ; pick = mk .pick
-  ; mayWish = mk .mayWish
-  }
+boardOf mk = record {
+  teachers = mk .teachers;
+  lanes = mk .lanes;
+  rankAt = λ l t. cond (mk .licensed t l) (rank mk l t) 0;
+  fits = mk .fits;
+  pick = mk .pick;
+  mayWish = mk .mayWish;
+}
 
 module _ (bd : Board) where
   -- cutoffs, teacher, lane: the teacher is licensed and has a rank of at least the lane's cutoff

@@ -32,7 +32,10 @@ pub fn sheet_files(rt: &LibcRuntime) -> Result<SheetFiles, Stop> {
         }
         (Some(posts), Some(staff), None) => Ok(SheetFiles { posts, staff }),
         _ => {
-            eprintln!(rt, "posting: give no argument, or the paths of the posts sheet and of the staff sheet")?;
+            eprintln!(
+                rt,
+                "posting: give no argument, or the paths of the posts sheet and of the staff sheet"
+            )?;
             Err(Stop::Refused)
         }
     }

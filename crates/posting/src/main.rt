@@ -1,6 +1,7 @@
 // Opens a posting round from the two sheets, settles it and prints the result sheet, or shows what is wrong with the sheets.
 mod files;
 mod shown;
+
 use book::Book;
 use files::SheetFiles;
 use files::read_sheet;
@@ -22,14 +23,23 @@ use shown::show_fault;
 use shown::show_result;
 
 // Fills the standing and the limit from the sheets: points decide, and a lane has as many seats as its size.
-fn fill_rules(points: &mut Points, seats: &mut Seats, desk: &mut Sheets, posts: &[u8], staff: &[u8]) -> Result<(), Fault> {
+fn fill_rules(
+    points: &mut Points,
+    seats: &mut Seats,
+    desk: &mut Sheets,
+    posts: &[u8],
+    staff: &[u8],
+) -> Result<(), Fault> {
     points.fill(desk, posts, staff)?;
     seats.fill(desk, posts, staff)
 }
 
 // The calls of the round: one settle, with a budget that always suffices.
 fn settle_log<'a>() -> [Entry<'a>; 1] {
-    [Entry { call: Command::Settle(16000), answer: Answer::Pending }]
+    [Entry {
+        call: Command::Settle(16000),
+        answer: Answer::Pending,
+    }]
 }
 
 // Did the settle leave no lane over-asked? A budget of 16,000 always does.

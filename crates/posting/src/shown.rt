@@ -37,13 +37,26 @@ pub impl From<io::Error> for Stop as StopFromIoError {
 }
 
 // The four lines of a refusal on the standard output, and the faulty line's text on the standard error.
-pub fn show_fault(rt: &LibcRuntime, names: &SheetFiles, posts: &[u8], staff: &[u8], fault: Fault) -> Result<(), Stop> {
+pub fn show_fault(
+    rt: &LibcRuntime,
+    names: &SheetFiles,
+    posts: &[u8],
+    staff: &[u8],
+    fault: Fault,
+) -> Result<(), Stop> {
     let number = fault.kind.number();
     let sheet = fault.sheet;
     let line = fault.line;
     let place = fault.place;
-    println!(rt, "refused={number}\nsheet={sheet}\nline={line}\nplace={place}")?;
-    let name = if sheet == 2 { names.staff.as_str() } else { names.posts.as_str() };
+    println!(
+        rt,
+        "refused={number}\nsheet={sheet}\nline={line}\nplace={place}"
+    )?;
+    let name = if sheet == 2 {
+        names.staff.as_str()
+    } else {
+        names.posts.as_str()
+    };
     let text = line_text(posts, staff, sheet, place);
     eprint!(rt, "posting: {name}, line {line}: ")?;
     let mut out = rt.stderr();

@@ -115,9 +115,10 @@ module _ (family : ℕ → Group → Bool) where
   settle-is (suc b) m = go (nextIn family m) (settle-is b)
     where
       go : (o : Option ℕ) → ((u : Model) → settleOut family u b ≡ (pressesIn family u b, settledIn family u b))
-          → _≡_ {A = ℕ × Model} (onSome o (0, m) (λ l. morePresses 1 (settleOut family (bumped m l) b)))
-            (onSome o zero (λ l. suc (presses (bd m) (picks (bd m) (m .1)) b (pressed l (m .1 .cuts)))),
-             (m .0, with-cuts (m .1) (onSome o (m .1 .cuts) (λ l. settled (bd m) (picks (bd m) (m .1)) b (pressed l (m .1 .cuts))))))
+          → _≡_ {A = ℕ × Model} (onSome o (0, m) (λ l. morePresses 1 (settleOut family (bumped m l) b))) (
+            onSome o zero (λ l. suc (presses (bd m) (picks (bd m) (m .1)) b (pressed l (m .1 .cuts)))),
+            (m .0, with-cuts (m .1) (onSome o (m .1 .cuts) (λ l. settled (bd m) (picks (bd m) (m .1)) b (pressed l (m .1 .cuts))))),
+          )
       go None ih = refl
       go (Some l) ih = let f : ℕ → ℕ × Model = λ x. (x, settledIn family (bumped m l) b) in
           ap (morePresses 1) (ih (bumped m l)) ∙ ap f (one-add (pressesIn family (bumped m l) b))

@@ -75,10 +75,10 @@ module _ (es : List Entry) (i : ℕ) (d x : Entry) (h : i < length es) where
   answers-more family m cs s e k l =
       ap (λ (xs : List Answer). getD xs k Pending) (map-set (λ (y : Entry). y .answer) es i x)
       ∙ ⊎-elim
-        (λ (q : k ≡ i). ap (λ j. getD (set (answersOf es) i (x .answer)) j Pending) q ∙ getD-set-same (answersOf es) i (x .answer) Pending (omega (arith, length-map es (λ (y : Entry). y .answer)))
-            ∙ e ∙ ap (λ j. answerTo family (getD cs j post) (ran family m (take j cs))) (sym q))
-        (λ (q : k ≢ i). getD-set-other (answersOf es) i k (x .answer) Pending q ∙ s k (omega arith))
-        (cases-eq k i)
+      (λ (q : k ≡ i). ap (λ j. getD (set (answersOf es) i (x .answer)) j Pending) q ∙ getD-set-same (answersOf es) i (x .answer) Pending (omega (arith, length-map es (λ (y : Entry). y .answer)))
+      ∙ e ∙ ap (λ j. answerTo family (getD cs j post) (ran family m (take j cs))) (sym q))
+      (λ (q : k ≢ i). getD-set-other (answersOf es) i k (x .answer) Pending q ∙ s k (omega arith))
+      (cases-eq k i)
 
 -- ---- the board of an opened round is that of the market
 
@@ -92,14 +92,14 @@ module _ (ahead : ℕ → ℕ → ℕ → Bool) (family : ℕ → Group → Bool
   rank-any l t = refl
 
   abbrev boardBy : List Person → (ℕ → ℕ → ℕ) → Board
-  boardBy ps ranks = record
-    { teachers = length ps
-    ; lanes = length (m .posts .lanes)
-    ; rankAt = ranks
-    ; fits = λ l g. family (l + 1) g
-    ; pick = λ t w. pickOf (m .posts) (getD ps t stranger) w
-    ; mayWish = λ t w. wish-ok (m .posts .schools) w
-    }
+  boardBy ps ranks = record {
+    teachers = length ps;
+    lanes = length (m .posts .lanes);
+    rankAt = ranks;
+    fits = λ l g. family (l + 1) g;
+    pick = λ t w. pickOf (m .posts) (getD ps t stranger) w;
+    mayWish = λ t w. wish-ok (m .posts .schools) w;
+  }
 
   pub board-is : boardIn family (opening ahead m .0) ≡ boardOf (marketOf ahead family (tables-of m))
   board-is = ap₂ boardBy (people-same (m .teachers)) (fun-ext (λ l. fun-ext (λ t. ap (λ r. cond (licensedFor (tables-of m) t l) r 0) (rank-any l t))))
@@ -136,8 +136,8 @@ module _ {S L : Type 0} (ahead : S → ℕ → ℕ → ℕ → Bool) (family : L
               lines = λ j _. line-keeps (ahead (p .standing)) (family (p .limit)) m P (d .ranges) (take j (callsOf es));
               last = ap (λ (x : PlaceModel S L). x .round) f ∙ ap (λ (x : PlaceModel S L). ran (family (x .limit)) (x .round) (callsOf es)) is ∙ round-is (ahead (p .standing)) (family (p .limit)) m (callsOf es);
               answered = λ j l. answers j l
-                ∙ ap (λ (x : PlaceModel S L). answerTo (family (x .limit)) (getD (callsOf es) j post) (ran (family (x .limit)) (x .round) (take j (callsOf es)))) is
-                ∙ ap (answerTo (family (p .limit)) (getD (callsOf es) j post)) (round-is (ahead (p .standing)) (family (p .limit)) m (take j (callsOf es)));
+                  ∙ ap (λ (x : PlaceModel S L). answerTo (family (x .limit)) (getD (callsOf es) j post) (ran (family (x .limit)) (x .round) (take j (callsOf es)))) is
+                  ∙ ap (answerTo (family (p .limit)) (getD (callsOf es) j post)) (round-is (ahead (p .standing)) (family (p .limit)) m (take j (callsOf es)));
             };
           }
 

@@ -83,11 +83,11 @@ bumped m l = (m .0, with-cuts (m .1) (pressed l (m .1 .cuts)))
 pub lifted-bumped : (m : Model) (l : ℕ) → l < length (m .0 .posts .lanes) → m .1 .cuts l ≤ 201 → lifted m l ≡ bumped m l
 lifted-bumped m l h c = ap (λ (d : ℕ → ℕ). (m .0, with-cuts (m .1) d)) (fun-ext (λ k. ⊎-elim
     (λ (e : k ≡ l).
-        cond-true (ltb l (length (m .0 .posts .lanes)) && eqb k l) (min (suc (m .1 .cuts k)) 202) (m .1 .cuts k) (ap₂ (λ a b. a && b) (lt-ltb l (length (m .0 .posts .lanes)) h) (eq-eqb k l e))
-        ∙ omega (arith, ap (m .1 .cuts) e) ∙ sym (cond-true (eqb k l) (suc (m .1 .cuts k)) (m .1 .cuts k) (eq-eqb k l e)))
+    cond-true (ltb l (length (m .0 .posts .lanes)) && eqb k l) (min (suc (m .1 .cuts k)) 202) (m .1 .cuts k) (ap₂ (λ a b. a && b) (lt-ltb l (length (m .0 .posts .lanes)) h) (eq-eqb k l e))
+    ∙ omega (arith, ap (m .1 .cuts) e) ∙ sym (cond-true (eqb k l) (suc (m .1 .cuts k)) (m .1 .cuts k) (eq-eqb k l e)))
     (λ (n : k ≢ l).
-        cond-false (ltb l (length (m .0 .posts .lanes)) && eqb k l) (min (suc (m .1 .cuts k)) 202) (m .1 .cuts k) (no (ltb l (length (m .0 .posts .lanes))) (eqb k l) (ne-eqb k l n))
-        ∙ sym (cond-false (eqb k l) (suc (m .1 .cuts k)) (m .1 .cuts k) (ne-eqb k l n)))
+    cond-false (ltb l (length (m .0 .posts .lanes)) && eqb k l) (min (suc (m .1 .cuts k)) 202) (m .1 .cuts k) (no (ltb l (length (m .0 .posts .lanes))) (eqb k l) (ne-eqb k l n))
+    ∙ sym (cond-false (eqb k l) (suc (m .1 .cuts k)) (m .1 .cuts k) (ne-eqb k l n)))
     (cases-eq k l)))
   where
     no : (a b : Bool) → b ≡ false → (a && b) ≡ false

@@ -2,6 +2,7 @@
 mod answers;
 mod log;
 mod place;
+
 pub use answers::Refusal;
 pub use answers::Settled;
 pub use log::Answer;

@@ -74,8 +74,8 @@ module _ (m : SheetsModel) (t : ℕ) (w : List ℕ) (l : t < length (m .teachers
       let old = every-at (teacher-ok s j) (m .teachers) t nobody (q .1) l in
       and-from (posts-ok (m .posts)) (staff-ok s j (then′ .teachers)) (p .0)
       (and-from (within 1 200 (length (then′ .teachers))) (every (teacher-ok s j) (then′ .teachers))
-        (ap (within 1 200) (length-set (m .teachers) t (with-wish w (getD (m .teachers) t nobody))) ∙ q .0)
-        (every-set (teacher-ok s j) (m .teachers) t (with-wish w (getD (m .teachers) t nobody)) (q .1) (wish-kept s j (getD (m .teachers) t nobody) w old ok)))
+      (ap (within 1 200) (length-set (m .teachers) t (with-wish w (getD (m .teachers) t nobody))) ∙ q .0)
+      (every-set (teacher-ok s j) (m .teachers) t (with-wish w (getD (m .teachers) t nobody)) (q .1) (wish-kept s j (getD (m .teachers) t nobody) w old ok)))
 
   pub then-kept : kept m ≡ true → kept then′ ≡ true
   then-kept h = or-true (is-blank then′) (in-range then′) (then-in-range (someone m h (omega arith)))
@@ -102,7 +102,7 @@ module _ (ts : List Teacher) (t : ℕ) (x : Teacher) (l : t < length ts) (is : x
   table-then =
       map-set teacher-record ts t written
       ∙ ap (λ (y : TeacherRecord). set (map teacher-record ts) t y)
-        (ap (λ ns. with-wish ns (teacher-record x)) (copied ∙ take-all 12 w few) ∙ ap (with-wish w) (ap teacher-record is ∙ sym (getD-map teacher-record ts t x nobody l)))
+      (ap (λ ns. with-wish ns (teacher-record x)) (copied ∙ take-all 12 w few) ∙ ap (with-wish w) (ap teacher-record is ∙ sym (getD-map teacher-record ts t x nobody l)))
 
 pub wish-few : (schools : ℕ) (w : List ℕ) → wish-ok schools w ≡ true → length w ≤ 12
 wish-few schools w h = let p = and-parts (few-within 12 schools w) (distinct w) h .0 in leb-true (length w) 12 (and-parts (leb (length w) 12) _ p .0)

@@ -58,7 +58,7 @@ abbrev pub posts-of : List ℕ → Result PostsModel Fault
 posts-of bs =
     cond (leb (length bs) 30000)
     (bind (single Schools 1 30 bs (posts-spot 1 0)) (λ s.
-     bind (single Subjects 1 10 bs (posts-spot 2 (s .1))) (λ j.
-     bind (single Lanes 1 80 bs (posts-spot 3 (j .1))) (λ n.
-     bind (lanes (n .0) (s .0) (j .0) bs (n .1)) (posts-end (s .0) (j .0) (4 + 2 * n .0) bs)))))
+    bind (single Subjects 1 10 bs (posts-spot 2 (s .1))) (λ j.
+    bind (single Lanes 1 80 bs (posts-spot 3 (j .1))) (λ n.
+    bind (lanes (n .0) (s .0) (j .0) bs (n .1)) (posts-end (s .0) (j .0) (4 + 2 * n .0) bs)))))
     (Err (fault (posts-spot 0 0) TooLong))

@@ -14,7 +14,11 @@ fn chosen<'a>(posts: &'a [u8], staff: &'a [u8], sheet: u8) -> &'a [u8]
 fn rest_from(s: &[u8], place: usize) -> &[u8]
     ensures { λ r. ⌜ now r ≡ drop place (now (s .entry)) ⌝ }
 {
-    if place < s.len() { &s[place..] } else { &s[s.len()..] }
+    if place < s.len() {
+        &s[place..]
+    } else {
+        &s[s.len()..]
+    }
 }
 
 fn first_line(s: &[u8]) -> &[u8]

@@ -9,6 +9,7 @@ mod sheets;
 mod staff;
 mod wishes;
 mod writes;
+
 pub use handed::line_text;
 pub use laws::format_is_canonical;
 pub use records::Lane;

@@ -19,4 +19,5 @@ pub struct Sheets {
     ghost kept: { keptOf (tables-model schools subjects (vec-items lanes) (vec-items teachers)) ≡ true },
 }
 
+pub mod asked;
 pub mod calls;

@@ -44,7 +44,7 @@ module _ (d : List ℕ) (at : ℕ) (s t : List ℕ) (room : at + length s ≤ le
       let rest = drop n d in
       let head : take n (put d at s) ≡ front = ap (take n) split ∙ take-at front rest n front-length in
       let tail : drop (n + length t) (put d at s) ≡ drop (at + length (s ++ t)) d =
-          sym (drop-drop (length t) n (put d at s)) ∙ ap (λ l. drop (length t) l) (ap (drop n) split ∙ drop-at front rest n front-length) ∙ drop-drop (length t) n d ∙ ap (λ k. drop k d) (omega (arith, length-append s t)) in
+      sym (drop-drop (length t) n (put d at s)) ∙ ap (λ l. drop (length t) l) (ap (drop n) split ∙ drop-at front rest n front-length) ∙ drop-drop (length t) n d ∙ ap (λ k. drop k d) (omega (arith, length-append s t)) in
       ap₂ (λ x y. x ++ (t ++ y)) head tail ∙ append-assoc (take at d) s (t ++ drop (at + length (s ++ t)) d) ∙ ap (λ l. take at d ++ l) (sym (append-assoc s t (drop (at + length (s ++ t)) d)))
 
 pub then : {d : List ℕ} {at : ℕ} {s e : List ℕ} {q : ℕ} {t f : List ℕ} {r : ℕ} → length d < 2 ^ 63 → Put d at s e q → Put e q t f r → Put d at (s ++ t) f r
@@ -76,4 +76,3 @@ first-entry i n e = rw e
 pub later-entry : (i n : ℕ) → (i ≡ 0 → ⊥) → (44 ∷ []) ++ decimal n ≡ entry i n
 later-entry zero n h = absurd (h refl)
 later-entry (suc i) n h = refl
-

@@ -38,7 +38,11 @@ impl Book {
     pub fn cutoff(&self, l: usize) -> u16
         ensures { λ r. ⌜ r ≡ stateOf (now (self .entry)) .cuts l ⌝ }
     {
-        if l < self.cutoffs.len() { self.cutoffs[l] } else { 1 }
+        if l < self.cutoffs.len() {
+            self.cutoffs[l]
+        } else {
+            1
+        }
     }
 
     // The rank of the teacher in the lane, both by their index; 0 for one who is not licensed.
@@ -109,7 +113,11 @@ pub fn asker_row(offers: &[Option<u16>], l: usize) -> [u8; 200]
     ensures { λ r. ⌜ (length (now (offers .entry)) ≤ 200 → (t : ℕ) → told r t ≡ holds (getD (now (offers .entry)) t None) l) ⌝ }
 {
     let mut row = [0u8; 200];
-    let n = if offers.len() < 200 { offers.len() } else { 200 };
+    let n = if offers.len() < 200 {
+        offers.len()
+    } else {
+        200
+    };
     for t in 0..n {
         row[t] = mark(offers[t], l);
     }

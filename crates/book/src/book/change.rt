@@ -57,7 +57,13 @@ impl Book {
         let ranks = Ranks::reserve(heap)?;
         let picks = Vec::with_capacity(heap, 200)?;
         let cutoffs = Vec::with_capacity(heap, 80)?;
-        Ok(Book { sheets, ranks, picks, cutoffs, posted: true })
+        Ok(Book {
+            sheets,
+            ranks,
+            picks,
+            cutoffs,
+            posted: true,
+        })
     }
 
     // Forgets the round: nothing is opened then.

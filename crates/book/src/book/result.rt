@@ -75,7 +75,12 @@ impl Book {
         let raises = self.raises();
         let seats = self.seats();
         let mut no_room: [u8; 0] = [];
-        let size = put_result(&mut no_room, raises, self.cutoffs.as_slice(), seats.as_slice());
+        let size = put_result(
+            &mut no_room,
+            raises,
+            self.cutoffs.as_slice(),
+            seats.as_slice(),
+        );
         if size > buf.len() {
             return Err(WriteRefusal::BufferTooShort);
         }

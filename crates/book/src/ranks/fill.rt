@@ -33,7 +33,11 @@ impl Ranks {
     pub fn entry(&self, at: usize) -> u16
         ensures { λ r. ⌜ r ≡ getD (vec-items (now (self .entry) .table)) at 0 ⌝ }
     {
-        if at < self.table.len() { self.table[at] } else { 0 }
+        if at < self.table.len() {
+            self.table[at]
+        } else {
+            0
+        }
     }
 }
 
@@ -67,7 +71,12 @@ pub fn rank_all<S: Standing>(standing: &S, sheets: &Sheets, ranks: &mut Ranks)
 {
     let lanes = sheets.lanes();
     for l in 0..lanes.len() {
-        let row = rank_row(standing, (l + 1) as u16, sheets.teachers(), lanes[l].subject);
+        let row = rank_row(
+            standing,
+            (l + 1) as u16,
+            sheets.teachers(),
+            lanes[l].subject,
+        );
         ranks.set_lane(l, &row);
     }
 }

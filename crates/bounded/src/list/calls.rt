@@ -11,7 +11,10 @@ impl<const N: usize> BoundedList<N> {
     pub fn new() -> BoundedList<N>
         ensures { λ r. ⌜ listed r ≡ [] ⌝ }
     {
-        BoundedList { items: [0; N], len: 0 }
+        BoundedList {
+            items: [0; N],
+            len: 0,
+        }
     }
 
     // Adds a number at the end and answers true; a full list stays as it is and answers false.

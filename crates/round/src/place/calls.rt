@@ -37,11 +37,17 @@ impl<S: Standing, L: Limit> Place<S, L> {
         for i in 0..budget {
             match self.first_over() {
                 Some(l) => self.book.raise(l as usize),
-                None => return Ok(Settled { presses: i, over: false }),
+                None => return Ok(Settled {
+                    presses: i,
+                    over: false,
+                }),
             }
         }
         let over = self.first_over().is_some();
-        Ok(Settled { presses: budget, over })
+        Ok(Settled {
+            presses: budget,
+            over,
+        })
     }
 
     // Raises by 1 every lane that is over-asked before the sweep, and answers how many.

@@ -27,7 +27,11 @@ impl<S: Standing, L: Limit> Place<S, L> {
     {
         let mut book = memory;
         book.clear();
-        Place { standing, limit, book }
+        Place {
+            standing,
+            limit,
+            book,
+        }
     }
 
     // Opens a round from two sheets, which are read on the desk; a fault is handed on whole and leaves the round as it was.
@@ -68,7 +72,13 @@ impl<S: Standing, L: Limit> Place<S, L> {
     // Opens a round from two sheets and carries out the calls of the entries, in whatever number and order, writing down what each of them
     // answered. At every line of the log each teacher's offer is at least as good as what any fair assignment gives; the offers are a fair
     // assignment once no lane is over-asked; and where there is room for the incumbents, each has an offer.
-    pub fn keep_log(&mut self, desk: &mut Sheets, posts: &[u8], staff: &[u8], entries: &mut [Entry<'_>]) -> Result<(), Fault>
+    pub fn keep_log(
+        &mut self,
+        desk: &mut Sheets,
+        posts: &[u8],
+        staff: &[u8],
+        entries: &mut [Entry<'_>],
+    ) -> Result<(), Fault>
         ensures { λ r. ⌜ LogKept (S·Standing .ahead) (L·Limit .family) (now (posts .entry)) (now (staff .entry)) (placeOf (now (self .entry))) (placeOf (now (self .exit))) (now (entries .entry)) (now (entries .exit)) r ⌝ }
     {
         self.open(desk, posts, staff)?;

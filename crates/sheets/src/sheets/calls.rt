@@ -13,22 +13,27 @@ ghost use Rattle.sheets.specs.Model.{blank, lane-record, teacher-record};
 ghost use Rattle.sheets.specs.Read.{sheets-of, reading};
 ghost use Rattle.sheets.specs.Tables.{tables-model, posts-sheet, staff-sheet, rewished};
 ghost use Rattle.sheets.specs.Written.{writing};
-use super::Sheets;
 use super::super::posts::read_posts;
 use super::super::records::Lane;
 use super::super::records::Teacher;
 use super::super::refusals::WriteRefusal;
 use super::super::staff::read_staff;
+use super::super::wishes::wishes_ok;
 use super::super::writes::put_posts;
 use super::super::writes::put_staff;
-use super::super::wishes::wishes_ok;
+use super::Sheets;
 use bounded::BoundedList;
 use lines::Fault;
 use std::alloc::AllocError;
 use std::alloc::Global;
 
 // Both sheets, into empty tables; answers how many schools and subjects there are.
-fn read_pair(lanes: &mut Vec<Lane>, teachers: &mut Vec<Teacher>, posts: &[u8], staff: &[u8]) -> Result<(u16, u16), Fault>
+fn read_pair(
+    lanes: &mut Vec<Lane>,
+    teachers: &mut Vec<Teacher>,
+    posts: &[u8],
+    staff: &[u8],
+) -> Result<(u16, u16), Fault>
     requires { ⌜ vec-items (now lanes) ≡ [] ⌝ ∗ ⌜ 80 ≤ vec-cap (now lanes) ⌝ ∗ ⌜ vec-items (now teachers) ≡ [] ⌝ ∗ ⌜ 200 ≤ vec-cap (now teachers) ⌝ }
     ensures value { λ r. ⌜ seen (λ p. tables-model (p .0) (p .1) (vec-items (now (lanes .exit))) (vec-items (now (teachers .exit)))) r ≡ sheets-of (now (posts .entry)) (now (staff .entry)) ⌝ }
     ensures lane_capacity { λ r. ⌜ vec-cap (now (lanes .exit)) ≡ vec-cap (now (lanes .entry)) ⌝ }
@@ -46,7 +51,12 @@ impl Sheets {
     {
         let lanes = Vec::with_capacity(heap, 80)?;
         let teachers = Vec::with_capacity(heap, 200)?;
-        Ok(Sheets { schools: 0, subjects: 0, lanes, teachers })
+        Ok(Sheets {
+            schools: 0,
+            subjects: 0,
+            lanes,
+            teachers,
+        })
     }
 
     // Forgets what was read.
@@ -91,7 +101,12 @@ impl Sheets {
             return Ok(0);
         }
         let mut no_room: [u8; 0] = [];
-        let size = put_posts(&mut no_room, self.schools, self.subjects, self.lanes.as_slice());
+        let size = put_posts(
+            &mut no_room,
+            self.schools,
+            self.subjects,
+            self.lanes.as_slice(),
+        );
         if size > buf.len() {
             return Err(WriteRefusal::BufferTooShort);
         }
@@ -111,36 +126,6 @@ impl Sheets {
             return Err(WriteRefusal::BufferTooShort);
         }
         Ok(put_staff(buf, self.teachers.as_slice()))
-    }
-
-    // How many schools there are; 0 before anything is read.
-    pub fn schools(&self) -> u16
-        ensures { λ r. ⌜ r ≡ model-of (now (self .entry)) .posts .schools ⌝ }
-    {
-        self.schools
-    }
-
-    // How many subjects there are.
-    pub fn subjects(&self) -> u16
-        ensures { λ r. ⌜ r ≡ model-of (now (self .entry)) .posts .subjects ⌝ }
-    {
-        self.subjects
-    }
-
-    // The lanes, in the order of the sheet.
-    pub fn lanes(&self) -> &[Lane]
-        ensures value { λ r. ⌜ map lane-record (now r) ≡ model-of (now (self .entry)) .posts .lanes ⌝ }
-        ensures few { λ r. ⌜ length (now r) ≤ 80 ⌝ }
-    {
-        self.lanes.as_slice()
-    }
-
-    // The teachers, in the order of the sheet.
-    pub fn teachers(&self) -> &[Teacher]
-        ensures value { λ r. ⌜ map teacher-record (now r) ≡ model-of (now (self .entry)) .teachers ⌝ }
-        ensures few { λ r. ⌜ length (now r) ≤ 200 ⌝ }
-    {
-        self.teachers.as_slice()
     }
 
     // Gives the teacher at the index another wish list, and answers true; where there is no such teacher, or the list is not acceptable,

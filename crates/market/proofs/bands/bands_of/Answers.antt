@@ -13,12 +13,11 @@ use Rattle.market.proofs.bands.bands_of.Needs as need
 pub loop-t-again : need.loop-t-again
 loop-t-again c =
     let f : Teacher → ℕ = λ x. bandIn (c .args .subject) (person (teacher-record x)) in
-    let ts = c .args .teachers .now in
-    (
+    let ts = c .args .teachers .now in (
       length-set (c .loop-t .bands) (c .loop-t .t) (c .band-in .result) ∙ c .loop-t .inv .0,
       take-more-set (c .loop-t .bands) (c .loop-t .t) (c .band-in .result) (omega (arith, c .loop-t .inv .0))
-      ∙ ap₂ (λ xs x. xs ++ x ∷ []) (c .loop-t .inv .1) (c .band-in .ensures ∙ ap f (c .index-teachers-t .is))
-      ∙ sym (map-more f ts (c .loop-t .t) (c .index-teachers-t .result) (omega arith)),
+          ∙ ap₂ (λ xs x. xs ++ x ∷ []) (c .loop-t .inv .1) (c .band-in .ensures ∙ ap f (c .index-teachers-t .is))
+          ∙ sym (map-more f ts (c .loop-t .t) (c .index-teachers-t .result) (omega arith)),
     )
 
 pub returns : need.returns

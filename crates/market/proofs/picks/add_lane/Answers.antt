@@ -19,7 +19,7 @@ returns-then-not-passes c =
     let q = person (teacher-record (c .args .p .now)) in
     let at = getD-map lane-record (c .args .lanes .now) (c .args .l) (c .index-lanes-l .result) no-lane (omega arith) in
     let is : passAt (c .args .main) (map lane-record (c .args .lanes .now)) q (c .args .school) (c .args .l) ≡ false =
-        ap (passes (c .args .main) q (c .args .school)) (at ∙ ap lane-record (sym (c .index-lanes-l .is))) ∙ sym (c .if-not-passes .ensures tt) in
+    ap (passes (c .args .main) q (c .args .school)) (at ∙ ap lane-record (sym (c .index-lanes-l .is))) ∙ sym (c .if-not-passes .ensures tt) in
     same-front 80 xs (listed-within (c .args .out .now)) ∙ ap (λ l. take 80 (xs ++ l)) (sym (cond-false _ (c .args .l ∷ []) [] is))
 
 pub returns : need.returns
@@ -28,5 +28,5 @@ returns c =
     let q = person (teacher-record (c .args .p .now)) in
     let at = getD-map lane-record (c .args .lanes .now) (c .args .l) (c .index-lanes-l .result) no-lane (omega arith) in
     let is : passAt (c .args .main) (map lane-record (c .args .lanes .now)) q (c .args .school) (c .args .l) ≡ true =
-        ap (passes (c .args .main) q (c .args .school)) (at ∙ ap lane-record (sym (c .index-lanes-l .is))) ∙ sym (c .if-not-passes .ensures tt) in
+    ap (passes (c .args .main) q (c .args .school)) (at ∙ ap lane-record (sym (c .index-lanes-l .is))) ∙ sym (c .if-not-passes .ensures tt) in
     push-front 80 xs (listed (c .push .last .self)) (c .push .result) (c .args .l) (listed-within (c .args .out .now)) (c .push .ensures) ∙ ap (λ l. take 80 (xs ++ l)) (sym (cond-true _ (c .args .l ∷ []) [] is))

@@ -18,5 +18,5 @@ returns c =
     record {
       long = c .loop-t .inv .0;
       each = each-all (offerIn (bookModel b)) None (c .loop-t .offers) (c .loop-t .t)
-        (λ t h. sym (no-offer (model-of (b .sheets)) (fixedOf b .ranks) (stateOf b .cuts) (b .posted) t (omega (arith, c .teacher-count-t-end .ensures .value, length-map (model-of (b .sheets) .teachers) unwished)))) (c .loop-t .inv .1);
+          (λ t h. sym (no-offer (model-of (b .sheets)) (fixedOf b .ranks) (stateOf b .cuts) (b .posted) t (omega (arith, c .teacher-count-t-end .ensures .value, length-map (model-of (b .sheets) .teachers) unwished)))) (c .loop-t .inv .1);
     }

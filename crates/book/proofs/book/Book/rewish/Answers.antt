@@ -47,8 +47,7 @@ ghost-self-2 c =
     let m = model-of (b .sheets) in
     let n = model-of (c .rewish .last .self) in
     let s = said-yes m (c .args .t) (c .args .wishes .now) n (c .if-not-rewish .ensures tt) in
-    let few : length (m .posts .lanes) ≤ 80 = omega (arith, length-map (vec-items (b .sheets .lanes)) lane-record, b .sheets .few .0, b .sheets .lanes .ok .0) in
-    (
+    let few : length (m .posts .lanes) ≤ 80 = omega (arith, length-map (vec-items (b .sheets .lanes)) lane-record, b .sheets .few .0, b .sheets .lanes .ok .0) in (
       (b .room .0, omega arith),
       (
         omega (arith, c .fill-ones .last .cutoffs .ok .0, ap length (c .fill-ones .ensures .value), length-replicate {A = ℕ} (length (c .lanes .result .now)) 1, length-map (c .lanes .result .now) lane-record, ap length (c .lanes .ensures .value)),

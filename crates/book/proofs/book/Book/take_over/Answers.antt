@@ -14,14 +14,13 @@ use Rattle.book.proofs.Changes.{ones, opened-is}
 use Rattle.book.proofs.book.Book.take_over.Needs as need
 
 pub ghost-self : need.ghost-self
-ghost-self c =
-    (
-      (omega arith, omega arith),
-      (
-        omega (arith, c .fill-ones .last .cutoffs .ok .0, ap length (c .fill-ones .ensures .value), length-replicate {A = ℕ} (length (c .lanes .result .now)) 1, length-map (c .lanes .result .now) lane-record, ap length (c .lanes .ensures .value)),
-        (λ l. omega (arith, ap (λ (f : ℕ → ℕ). f l) (ones (length (c .lanes .result .now)) (vec-items (c .fill-ones .last .cutoffs)) (c .fill-ones .ensures .value))), (c .fill-picks .ensures .value, tt)),
-      ),
-    )
+ghost-self c = (
+  (omega arith, omega arith),
+  (
+    omega (arith, c .fill-ones .last .cutoffs .ok .0, ap length (c .fill-ones .ensures .value), length-replicate {A = ℕ} (length (c .lanes .result .now)) 1, length-map (c .lanes .result .now) lane-record, ap length (c .lanes .ensures .value)),
+    (λ l. omega (arith, ap (λ (f : ℕ → ℕ). f l) (ones (length (c .lanes .result .now)) (vec-items (c .fill-ones .last .cutoffs)) (c .fill-ones .ensures .value))), (c .fill-picks .ensures .value, tt)),
+  ),
+)
 
 pub returns : need.returns
 returns c =

@@ -17,7 +17,7 @@ set-lane-requires g c κs =
     let ts = c .teachers .result .now in
     let k : ℕ = getD (c .lanes-lanes .result .now) (c .loop-l .l) (c .index-lanes-l .result) .subject in
     let few : length (map (bandIn k) (map person (map teacher-record ts))) ≤ 200 =
-        omega (arith, c .teachers .ensures .few, length-map (map person (map teacher-record ts)) (bandIn k), length-map (map teacher-record ts) person, length-map ts teacher-record) in
+    omega (arith, c .teachers .ensures .few, length-map (map person (map teacher-record ts)) (bandIn k), length-map (map teacher-record ts) person, length-map ts teacher-record) in
     (omega (arith, c .lanes-lanes .ensures .few), (c .rank-row-row .ensures .long, λ t. omega (arith, c .rank-row-row .ensures .value t, rank-high (g .S·Standing .ahead (c .args .standing .now)) (c .loop-l .l + 1) (map (bandIn k) (map person (map teacher-record ts))) few t)))
 
 pub loop-l-again : need.loop-l-again

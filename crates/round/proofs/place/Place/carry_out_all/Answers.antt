@@ -37,8 +37,7 @@ loop-i-again g c =
     let x : Entry = record { call = getD es i past .call; answer = c .carry-out-answer .result } in
     let h : i < length es = omega arith in
     let k : i < length cs = omega (arith, ap length (c .loop-i .inv .1), length-map es (λ (e : Entry). callOf (e .call))) in
-    let is : getD cs i post ≡ callOf (getD es i past .call) = ap (λ (ys : List Call). getD ys i post) (sym (c .loop-i .inv .1)) ∙ call-read es i past x h in
-    (
+    let is : getD cs i post ≡ callOf (getD es i past .call) = ap (λ (ys : List Call). getD ys i post) (sym (c .loop-i .inv .1)) ∙ call-read es i past x h in (
       place-more (g .L·Limit .family) p q r cs i (callOf (getD es i past .call)) (c .carry-out-answer .result) k is (c .loop-i .inv .0) (c .carry-out-answer .ensures),
       calls-stay es i past x h refl ∙ c .loop-i .inv .1,
       answers-more es i past x h (g .L·Limit .family (p .limit)) (p .round) cs (c .loop-i .inv .2) (answer-more (g .L·Limit .family) p q r cs i (callOf (getD es i past .call)) (c .carry-out-answer .result) k is (c .loop-i .inv .0) (c .carry-out-answer .ensures)),

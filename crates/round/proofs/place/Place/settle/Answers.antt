@@ -24,10 +24,9 @@ loop-i-again g c =
     let q = c .loop-i .self in
     let family = g .L·Limit .family (p .limit) in
     let m = bookModel (q .book) in
-    let next : nextIn family m ≡ Some (c .in-Some .l) = ap (λ x. nextIn (g .L·Limit .family x) m) (sym (c .loop-i .inv .2)) ∙ sym (c .in-Some .ensures tt) in
-    (
+    let next : nextIn family m ≡ Some (c .in-Some .l) = ap (λ x. nextIn (g .L·Limit .family x) m) (sym (c .loop-i .inv .2)) ∙ sym (c .in-Some .ensures tt) in (
       settle-more family (bookModel (p .book)) m (bookModel (c .raise .last .self)) (c .args .budget) (c .loop-i .i) (c .in-Some .l) (omega arith) (c .loop-i .inv .0) next
-      (c .raise .ensures ∙ raised-is (q .book) family (g .L·Limit·met .empty (p .limit)) (c .in-Some .l) (next-over family m (c .in-Some .l) next)),
+          (c .raise .ensures ∙ raised-is (q .book) family (g .L·Limit·met .empty (p .limit)) (c .in-Some .l) (next-over family m (c .in-Some .l) next)),
       c .loop-i .inv .1,
       c .loop-i .inv .2,
     )
@@ -41,7 +40,7 @@ returns-in-None g c =
     let next : nextIn family m ≡ None = ap (λ x. nextIn (g .L·Limit .family x) m) (sym (c .loop-i .inv .2)) ∙ sym (c .in-None .ensures tt) in
     same-place _ (q .standing) (p .standing) (q .limit) (p .limit) m (c .loop-i .inv .1) (c .loop-i .inv .2)
     ∙ placed (g .L·Limit .family) (λ family. settleCall family (c .args .budget)) (placeOf p) _ _
-      (settle-done family (bookModel (p .book)) m (c .args .budget) (c .loop-i .i) _ (sym (c .if-is-posted .ensures tt)) (c .loop-i .inv .0 ∙ settle-stop-at family m (c .loop-i .i) (c .args .budget - c .loop-i .i) next) (sym (ap isSome next)))
+    (settle-done family (bookModel (p .book)) m (c .args .budget) (c .loop-i .i) _ (sym (c .if-is-posted .ensures tt)) (c .loop-i .inv .0 ∙ settle-stop-at family m (c .loop-i .i) (c .args .budget - c .loop-i .i) next) (sym (ap isSome next)))
 
 pub returns : need.returns
 returns g c =
@@ -51,5 +50,5 @@ returns g c =
     let m = bookModel (q .book) in
     same-place _ (q .standing) (p .standing) (q .limit) (p .limit) m (c .loop-i .inv .1) (c .loop-i .inv .2)
     ∙ placed (g .L·Limit .family) (λ family. settleCall family (c .args .budget)) (placeOf p) _ _
-      (settle-done family (bookModel (p .book)) m (c .args .budget) (c .args .budget) _ (sym (c .if-is-posted .ensures tt)) (c .loop-i .inv .0 ∙ settle-end family m (c .loop-i .i) (c .args .budget) (omega arith))
-        (c .is-some-over .ensures ∙ ap isSome (c .first-over-2 .ensures) ∙ ap (λ x. isSome (nextIn (g .L·Limit .family x) m)) (c .loop-i .inv .2)))
+    (settle-done family (bookModel (p .book)) m (c .args .budget) (c .args .budget) _ (sym (c .if-is-posted .ensures tt)) (c .loop-i .inv .0 ∙ settle-end family m (c .loop-i .i) (c .args .budget) (omega arith))
+    (c .is-some-over .ensures ∙ ap isSome (c .first-over-2 .ensures) ∙ ap (λ x. isSome (nextIn (g .L·Limit .family x) m)) (c .loop-i .inv .2)))

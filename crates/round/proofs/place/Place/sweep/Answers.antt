@@ -5,7 +5,6 @@ use native.Mathlib.Omega.{arith}
 use lib.ListN.{getD}
 use Rattle.matching.specs.Count.{count}
 use Rattle.matching.proofs.Ranking.{count-yes, count-no}
-
 use Rattle.book.specs.Held.{bookModel}
 use Rattle.book.specs.Model.{Model, lifted}
 use Rattle.round.specs.Calls.{sweepCall, overIn}
@@ -36,8 +35,7 @@ loop-l-again g c =
     elim (c .if-marks-l .came) [
       | then-marks-l w ↦
           let yes : overIn family m l ≡ true = sym (c .over-marks-marks .ensures .marks l) ∙ w .if-marks-l .taken in
-          let cut : sweptTo family m l .1 .cuts l ≤ 201 = omega (arith, swept-cut family m l, book-cut (p .book) family (g .L·Limit·met .empty (p .limit)) l yes) in
-          (
+          let cut : sweptTo family m l .1 .cuts l ≤ 201 = omega (arith, swept-cut family m l, book-cut (p .book) family (g .L·Limit·met .empty (p .limit)) l yes) in (
             ap (λ q. bookModel (q .book)) (w .self-is) ∙ w .raise .ensures ∙ ap (λ (x : Model). lifted x l) (c .loop-l .inv .0) ∙ lifted-bumped (sweptTo family m l) l (over-inside family m l yes) cut ∙ swept-yes family m l yes,
             omega (arith, count-yes (overIn family m) l yes, w .raised-is),
             omega (arith, w .raised-is),
@@ -56,4 +54,4 @@ returns g c =
     let family = g .L·Limit .family (p .limit) in
     same-place _ (q .standing) (p .standing) (q .limit) (p .limit) (bookModel (q .book)) (c .loop-l .inv .3) (c .loop-l .inv .4)
     ∙ placed (g .L·Limit .family) (λ family. sweepCall family) (placeOf p) _ _
-      (sweep-done family (bookModel (p .book)) (bookModel (q .book)) (c .loop-l .l) (c .loop-l .raised) (sym (c .if-is-posted .ensures tt)) (omega (arith, c .lane-count-l-end .ensures .value)) (c .loop-l .inv .0) (c .loop-l .inv .1))
+    (sweep-done family (bookModel (p .book)) (bookModel (q .book)) (c .loop-l .l) (c .loop-l .raised) (sym (c .if-is-posted .ensures tt)) (omega (arith, c .lane-count-l-end .ensures .value)) (c .loop-l .inv .0) (c .loop-l .inv .1))

@@ -11,8 +11,7 @@ ghost-self c =
     let s = c .args .staff .now in
     let ls = vec-items (c .read-pair .last .lanes) in
     let ts = vec-items (c .read-pair .last .teachers) in
-    let e = c .in-Ok .ensures tt .value in
-    (
+    let e = c .in-Ok .ensures tt .value in (
       (omega arith, omega arith),
       (
         (omega (arith, read-lanes p s (c .in-Ok .schools) (c .in-Ok .subjects) ls ts e, c .read-pair .last .lanes .ok .0), omega (arith, read-teachers p s (c .in-Ok .schools) (c .in-Ok .subjects) ls ts e, c .read-pair .last .teachers .ok .0)),

@@ -32,11 +32,12 @@ ghost-self c =
     let ok : wish-ok (c .args .self .now .schools) w ≡ true = sym (c .if-not-wishes-ok .ensures tt) in
     let l : t < length ts = omega (arith, c .args .self .now .teachers .ok .0) in
     let m = model-of (c .args .self .now) in
-    let in′ : t < length (m .teachers) = omega (arith, length-map ts teacher-record) in
-    (
+    let in′ : t < length (m .teachers) = omega (arith, length-map ts teacher-record) in (
       (c .args .self .now .room .0, c .args .self .now .room .1),
-      ((c .args .self .now .few .0, c .args .self .now .few .1),
-      (ap (λ (xs : List TeacherRecord). kept (record { posts = m .posts; teachers = xs })) (table-then ts t (c .index-mut-record .result .now) l (c .index-mut-record .ensures .value) w (c .copied-record .result) (c .copied-record .ensures) (wish-few (c .args .self .now .schools) w ok)) ∙ then-kept m t w in′ ok (c .args .self .now .kept), tt)),
+      (
+        (c .args .self .now .few .0, c .args .self .now .few .1),
+        (ap (λ (xs : List TeacherRecord). kept (record { posts = m .posts; teachers = xs })) (table-then ts t (c .index-mut-record .result .now) l (c .index-mut-record .ensures .value) w (c .copied-record .result) (c .copied-record .ensures) (wish-few (c .args .self .now .schools) w ok)) ∙ then-kept m t w in′ ok (c .args .self .now .kept), tt),
+      ),
     )
 
 pub returns : need.returns
