@@ -101,9 +101,18 @@ fn show_questions(rt: &LibcRuntime, place: &Place<Points, Seats>) -> Result<(), 
     Ok(())
 }
 
+// Each of the five calls once.
+fn show_all(rt: &LibcRuntime, place: &mut Place<Points, Seats>) -> Result<(), Stop> {
+    show_answer(rt, "wish of teacher 2 for school 1", place.wish(2, &[1]))?;
+    show_answer(rt, "press lane 3", place.press(3))?;
+    show_sweep(rt, place)?;
+    show_settle(rt, place, 1)?;
+    show_answer(rt, "post", place.post())
+}
+
 // The calls, accepted and refused, in an unopened place and in the opened round.
 fn play(rt: &LibcRuntime, place: &mut Place<Points, Seats>, desk: &mut Sheets) -> Result<(), Stop> {
-    show_answer(rt, "post before the opening", place.post())?;
+    show_all(rt, place)?;
     show_sheet(rt, place, 4)?;
     let Ok(()) = place.open(desk, POSTS, STAFF) else {
         return Err(Stop::BadSheet);
@@ -131,8 +140,12 @@ fn play(rt: &LibcRuntime, place: &mut Place<Points, Seats>, desk: &mut Sheets) -
     show_sheet(rt, place, 30)?;
     show_sheet(rt, place, 40)?;
     show_answer(rt, "post", place.post())?;
-    show_answer(rt, "wish after posting", place.wish(2, &[1]))?;
-    show_settle(rt, place, 1)
+    show_all(rt, place)?;
+    let Ok(()) = place.open(desk, POSTS, STAFF) else {
+        return Err(Stop::BadSheet);
+    };
+    println!(rt, "opened again")?;
+    show_questions(rt, place)
 }
 
 pub fn show_round(rt: &LibcRuntime) -> Result<(), Stop> {
