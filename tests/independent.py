@@ -1,6 +1,6 @@
 #!/usr/bin/env python3
 """Runs the program `posting` on random and damaged sheets, and compares what it prints with an implementation
-that shares nothing with it: it was written from docs/ alone.
+that shares no code with it and works in another way: it follows docs/, and lets teachers ask one lane after another.
 
     tests/independent.py [CASES] [SEED] [PROGRAM]
 
