@@ -1,4 +1,6 @@
 // The book of a round: its tables, ranks, pick lists and cutoffs, in memory that was had before.
+#![tactic(auto)]
+
 mod book;
 mod ranks;
 

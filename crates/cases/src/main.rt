@@ -1,4 +1,6 @@
 // The sheets at work: sound and faulty pairs of sheets, a line for each, with what reading answers and what is written then.
+#![tactic(auto)]
+
 mod buffers;
 mod handed;
 mod largest;

@@ -1,4 +1,6 @@
 // One line of a sheet: its key, its numbers with their ranges and order, and what is wrong with it; and the line as written.
+#![tactic(auto)]
+
 mod entries;
 mod faults;
 mod keys;

@@ -1,4 +1,6 @@
 // Opens a posting round from the two sheets, settles it and prints the result sheet, or shows what is wrong with the sheets.
+#![tactic(auto)]
+
 mod files;
 mod shown;
 

@@ -1,4 +1,6 @@
 // A place for a posting round: opening it, the five calls, and the log of a round.
+#![tactic(auto)]
+
 mod answers;
 mod log;
 mod place;

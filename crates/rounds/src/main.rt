@@ -1,4 +1,6 @@
 // Limits and rounds at work, one line a case, through the calls that a district makes.
+#![tactic(auto)]
+
 mod limits;
 mod played;
 mod small;

@@ -1,5 +1,7 @@
 // The two sheets that open a posting round: posts (schools, subjects, lanes) and staff (teachers). They are read into tables whose memory was
 // had before, or refused with the first fault; and a round's tables are written back as the one pair of sheets that describes them.
+#![tactic(auto)]
+
 mod handed;
 mod laws;
 mod posts;

@@ -1,4 +1,6 @@
 // Numbers and comma lists as the sheets write them: read from bytes, and written into a lent buffer.
+#![tactic(auto)]
+
 mod reading;
 mod writing;
 

@@ -1,4 +1,6 @@
 // Rows of askers, trials and written sheets at work, one line a case, through the calls that a district makes.
+#![tactic(auto)]
+
 mod rows;
 mod stop;
 mod written;

@@ -1,4 +1,6 @@
 // Follows one posting round of a small district from its sheets to the posting, and tells what happens at each line of the round's log.
+#![tactic(auto)]
+
 mod answers;
 mod calls;
 mod ending;
