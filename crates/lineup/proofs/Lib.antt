@@ -1,1 +1,1 @@
-pub mod Lineup
+pub mod LineLaws

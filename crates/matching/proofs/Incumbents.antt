@@ -46,7 +46,7 @@ module _ (mk : Market) (L : Laws mk) (O : OwnLaws mk) (ps : ℕ → List ℕ) (q
       all_own t a = elim (cases_Bool (own mk t l)) [
         | inl e ↦ e
         | inr e ↦ let c = clears_parts mk s t l (offer_on mk ps s t l a).0 in
-            absurd (omega (arith, c.1, rx, rank_before mk L l x t lx c.0 (O.own_IsFirst l x t lx c.0 ox e)))
+            absurd (omega (arith, c.1, rx, rank_before mk L l x t lx c.0 (O.own_first l x t lx c.0 ox e)))
       ]
 
       many : q l < count (askers (board_of mk) ps s l) mk.teachers

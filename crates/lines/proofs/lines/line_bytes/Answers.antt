@@ -7,12 +7,12 @@ returns-then-place-sheet c = record { value = ap Err c.fault.ensures ∙ line_pa
 
 pub returns-then-k-rest : goal.returns-then-k-rest
 returns-then-k-rest c = record {
-  value = line_found c.args.sheet.now c.args.at c.position-of-k.result c.position-of-k.ensures.value c.if-k-rest.true;
+  value = line_found c.args.sheet.now c.args.at c.position_of-k.result c.position_of-k.ensures.value c.if-k-rest.true;
   within = let h = simp (length-take, length-drop) at c.if-k-rest.true in simp (length-take, length-drop) (omega arith);
 }
 
 pub returns-else-k-rest : goal.returns-else-k-rest
 returns-else-k-rest c = record {
-  value = ap Err c.fault-else-k-rest.ensures ∙ line_missing c.args.sheet.now c.args.at c.position-of-k.result c.position-of-k.ensures.value c.if-k-rest.false;
+  value = ap Err c.fault-else-k-rest.ensures ∙ line_missing c.args.sheet.now c.args.at c.position_of-k.result c.position_of-k.ensures.value c.if-k-rest.false;
   within = tt;
 }

@@ -10,11 +10,11 @@ pub returns-then-b-lt48 : goal.returns-then-b-lt48
 returns-then-b-lt48 c =
     sym (number_none c.args.piece.now (λ w. omega (arith, digit_at c.args.piece.now c.loop-b.b-index (own.to c.args.piece.now w.digits) (omega arith))))
 
-pub overflow-mul-n : goal.overflow-mul-n
-overflow-mul-n c = omega (arith, digits_short c.args.piece.now c.loop-b.b-index c.loop-b.invariant.1 (omega arith))
+pub overflow_mul-n : goal.overflow_mul-n
+overflow_mul-n c = omega (arith, digits_short c.args.piece.now c.loop-b.b-index c.loop-b.invariant.1 (omega arith))
 
-pub overflow-add-n : goal.overflow-add-n
-overflow-add-n c = omega (arith, digits_short c.args.piece.now c.loop-b.b-index c.loop-b.invariant.1 (omega arith))
+pub overflow_add-n : goal.overflow_add-n
+overflow_add-n c = omega (arith, digits_short c.args.piece.now c.loop-b.b-index c.loop-b.invariant.1 (omega arith))
 
 pub loop-b-preserved : goal.loop-b-preserved
 loop-b-preserved c =

@@ -7,4 +7,4 @@ pub returns-then-n-lt10 : goal.returns-then-n-lt10
 returns-then-n-lt10 t c = put_at (sym (decimal_digit c.args.n (omega arith))) c.put.ensures
 
 pub returns : goal.returns
-returns t c = put_at (sym (decimal_step c.args.n (omega arith) (omega arith))) (then (omega arith) c.put-number-next.ensures c.put-2.ensures)
+returns t c = put_at (sym (decimal_step c.args.n (omega arith) (omega arith))) (then (omega arith) c.put_number-next.ensures c.put-2.ensures)

@@ -4,4 +4,4 @@ use Rattle.text.proofs.writing.put.Goals as goal
 
 pub returns-then-at-end : goal.returns-then-at-end
 returns-then-at-end c =
-    put_part c.args.buf.now c.args.at c.args.s.now c.copy-from-slice.new.self c.saturating-add-end.result c.copy-from-slice.ensures.after c.saturating-add-end.ensures (omega arith) (omega arith)
+    put_part c.args.buf.now c.args.at c.args.s.now c.copy_from_slice.new.self c.saturating_add-end.result c.copy_from_slice.ensures.after c.saturating_add-end.ensures (omega arith) (omega arith)

@@ -8,7 +8,7 @@ pub loop-i-init : goal.loop-i-init
 loop-i-init c = put_none c.args.buf.now c.args.at (omega arith)
 
 pub loop-i-preserved : goal.loop-i-preserved
-loop-i-preserved c = put_at (commas_more c.args.ns.now c.loop-i.i (omega arith)) (then (omega arith) c.loop-i.invariant c.put-entry-end.ensures)
+loop-i-preserved c = put_at (commas_more c.args.ns.now c.loop-i.i (omega arith)) (then (omega arith) c.loop-i.invariant c.put_entry-end.ensures)
 
 pub returns : goal.returns
 returns c = put_at (ap commas (take_all c.loop-i.i c.args.ns.now (omega arith))) c.loop-i.invariant

@@ -8,8 +8,8 @@ use Rattle.book.proofs.Changes.{ones}
 use Rattle.book.proofs.Wishing.{test, after, said_yes, said_no, wished_yes, wished_no, picks_long, after_in, picks_after, teacher_in}
 use Rattle.book.proofs.book.Book.rewish.Goals as goal
 
-pub invariant-of-self : goal.invariant-of-self
-invariant-of-self c =
+pub invariant_of-self : goal.invariant_of-self
+invariant_of-self c =
     let m = model_of c.args.self.now.sheets in
     let s = said_no m c.args.t c.args.wishes.now (model_of c.rewish.new.self) c.if-not-rewish.ensures in
     (c.args.self.now.room, (c.args.self.now.sized ∙ ap (λ (x : SheetsModel). length x.posts.lanes) (sym s.1), (c.args.self.now.low, (c.args.self.now.picked ∙ ap picks_of (sym s.1), tt))))
@@ -37,8 +37,8 @@ index-mut-requires c =
     let few : length m.posts.lanes ≤ 80 = omega (arith, length-map (vec_items b.sheets.lanes) lane_record, b.sheets.few.0, b.sheets.lanes.ok.0) in
     omega (arith, b.picks.ok.0, picks_long m c.args.t c.args.wishes.now s.0 few (vec_items b.picks) b.picked, teacher_in m c.args.t c.args.wishes.now s.0)
 
-pub invariant-of-self-2 : goal.invariant-of-self-2
-invariant-of-self-2 c =
+pub invariant_of-self-2 : goal.invariant_of-self-2
+invariant_of-self-2 c =
     let b = c.args.self.now in
     let m = model_of b.sheets in
     let n = model_of c.rewish.new.self in

@@ -10,8 +10,8 @@ use Rattle.book.specs.Model.{Model, fixed_from, rank_in}
 use Rattle.book.proofs.Changes.{ones, opened_is}
 use Rattle.book.proofs.book.Book.take_over.Goals as goal
 
-pub invariant-of-self : goal.invariant-of-self
-invariant-of-self c = (
+pub invariant_of-self : goal.invariant_of-self
+invariant_of-self c = (
   (omega arith, omega arith),
   (
     omega (arith, c.fill-ones.new.cutoffs.ok.0, ap length c.fill-ones.ensures.value, length-replicate {A = ℕ} (length c.lanes.result.now) 1, length-map c.lanes.result.now lane_record, ap length c.lanes.ensures.value),

@@ -11,8 +11,8 @@ returns-then-l-len c =
     let b = c.args.self.now in
     left_back b (vec_items b.cutoffs) refl c.args.l c.args.tried c.args.row.now _ (trying_no_lane (book_model b) c.args.l c.args.tried c.args.row.now (omega (arith, c.len.ensures, b.sized)))
 
-pub invariant-of-self : goal.invariant-of-self
-invariant-of-self c =
+pub invariant_of-self : goal.invariant_of-self
+invariant_of-self c =
     let b = c.args.self.now in
     let v = c.drop-guard.new.self.0 in
     let e : vec_items v ≡ vec_items b.cutoffs = c.drop-guard.ensures.value ∙ restored (vec_items b.cutoffs) c.args.l c.args.tried c.index-old.result.now c.index-old.ensures in
@@ -28,8 +28,8 @@ returns-then-not-may-try c =
     let inside : c.args.l < length m.0.posts.lanes = omega (arith, c.len.ensures, b.sized) in
     left_back b (vec_items v) e c.args.l c.args.tried bytes _ (trying_cutoff m c.args.l c.args.tried bytes inside (ap (λ n. within c.args.tried (suc n)) (sym c.licensed-licensed.ensures.value) ∙ sym c.if-not-may-try.ensures))
 
-pub invariant-of-self-then-row-teachers : goal.invariant-of-self-then-row-teachers
-invariant-of-self-then-row-teachers c =
+pub invariant_of-self-then-row-teachers : goal.invariant_of-self-then-row-teachers
+invariant_of-self-then-row-teachers c =
     let b = c.args.self.now in
     let v = c.drop-guard-then-row-teachers.new.self.0 in
     let e : vec_items v ≡ vec_items b.cutoffs = c.drop-guard-then-row-teachers.ensures.value ∙ restored (vec_items b.cutoffs) c.args.l c.args.tried c.index-old.result.now c.index-old.ensures in
@@ -45,8 +45,8 @@ returns-then-row-teachers c =
     let inside : c.args.l < length m.0.posts.lanes = omega (arith, c.len.ensures, b.sized) in
     left_back b (vec_items v) e c.args.l c.args.tried bytes _ (trying_row m c.args.l c.args.tried bytes inside (ap (λ n. within c.args.tried (suc n)) (sym c.licensed-licensed.ensures.value) ∙ sym c.if-not-may-try.ensures) (λ q. c.if-row-teachers.true (q ∙ sym c.teacher-count-teachers.ensures.value)))
 
-pub invariant-of-self-2 : goal.invariant-of-self-2
-invariant-of-self-2 c =
+pub invariant_of-self-2 : goal.invariant_of-self-2
+invariant_of-self-2 c =
     let b = c.args.self.now in
     let v = c.drop-guard-2.new.self.0 in
     let e : vec_items v ≡ vec_items b.cutoffs = c.drop-guard-2.ensures.value ∙ restored (vec_items b.cutoffs) c.args.l c.args.tried c.index-old.result.now c.index-old.ensures in

@@ -3,8 +3,8 @@ use Rattle.sheets.specs.Read.{reading}
 use Rattle.sheets.proofs.ReadLaws.{read_describes, read_kept, read_lanes, read_teachers, refused_blank, refused_describes_none}
 use Rattle.sheets.proofs.sheets.Sheets.read.Goals as goal
 
-pub invariant-of-self : goal.invariant-of-self
-invariant-of-self c =
+pub invariant_of-self : goal.invariant_of-self
+invariant_of-self c =
     let p = c.args.posts.now in
     let s = c.args.staff.now in
     let ls = vec_items c.read-pair.new.lanes in

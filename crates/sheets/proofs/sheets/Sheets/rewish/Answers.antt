@@ -17,8 +17,8 @@ returns-then-not-wishes-ok c =
     rewished_no (model_of c.args.self.now) c.args.teacher c.args.wishes.now
     (no_wish (ltb c.args.teacher (length (map teacher_record (vec_items c.args.self.now.teachers)))) (wish_ok c.args.self.now.schools c.args.wishes.now) (sym c.if-not-wishes-ok.ensures))
 
-pub invariant-of-self : goal.invariant-of-self
-invariant-of-self c =
+pub invariant_of-self : goal.invariant_of-self
+invariant_of-self c =
     let ts = vec_items c.args.self.now.teachers in
     let t = c.args.teacher in
     let w = c.args.wishes.now in
