@@ -10,9 +10,9 @@ pub loop-t-preserved : goal.loop-t-preserved
 loop-t-preserved c =
     let f : Teacher → ℕ = λ x. band_in c.args.subject (person (teacher_record x)) in
     let ts = c.args.teachers.now in (
-      length-set c.loop-t.bands c.loop-t.t c.band-in.result ∙ c.loop-t.invariant.0,
-      take_more_set c.loop-t.bands c.loop-t.t c.band-in.result (omega (arith, c.loop-t.invariant.0))
-          ∙ ap₂ (λ xs x. xs ++ x ∷ []) c.loop-t.invariant.1 (c.band-in.ensures ∙ ap f c.index-teachers-t.is)
+      length-set c.loop-t.bands c.loop-t.t c.band_in.result ∙ c.loop-t.invariant.0,
+      take_more_set c.loop-t.bands c.loop-t.t c.band_in.result (omega (arith, c.loop-t.invariant.0))
+          ∙ ap₂ (λ xs x. xs ++ x ∷ []) c.loop-t.invariant.1 (c.band_in.ensures ∙ ap f c.index-teachers-t.is)
           ∙ sym (map_more f ts c.loop-t.t c.index-teachers-t.result (omega arith)),
     )
 

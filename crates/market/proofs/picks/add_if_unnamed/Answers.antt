@@ -14,4 +14,4 @@ returns-then-holds c =
 
 pub returns : goal.returns
 returns c =
-    c.add-school.ensures ∙ ap (λ l. take 80 (listed c.args.out.now ++ l)) (sym (cond-false _ [] (at_school (map lane_record c.args.lanes.now) (person (teacher_record c.args.p.now)) c.args.school) (sym c.if-holds.ensures)))
+    c.add_school.ensures ∙ ap (λ l. take 80 (listed c.args.out.now ++ l)) (sym (cond-false _ [] (at_school (map lane_record c.args.lanes.now) (person (teacher_record c.args.p.now)) c.args.school) (sym c.if-holds.ensures)))

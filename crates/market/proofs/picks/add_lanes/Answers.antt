@@ -19,7 +19,7 @@ pub loop-l-preserved : goal.loop-l-preserved
 loop-l-preserved c =
     let f : ℕ → List ℕ = λ i. cond (pass_at c.args.main (map lane_record c.args.lanes.now) (person (teacher_record c.args.p.now)) c.args.school i) (i ∷ []) [] in
     let xs = listed c.args.out.now in
-    more_front 80 xs (join_to f c.loop-l.l) (f c.loop-l.l) (listed c.loop-l.out) (listed c.add-lane.new.out) c.loop-l.invariant c.add-lane.ensures
+    more_front 80 xs (join_to f c.loop-l.l) (f c.loop-l.l) (listed c.loop-l.out) (listed c.add_lane.new.out) c.loop-l.invariant c.add_lane.ensures
     ∙ ap (λ l. take 80 (xs ++ l)) (sym (join_next f c.loop-l.l))
 
 pub returns : goal.returns

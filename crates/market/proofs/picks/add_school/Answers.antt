@@ -7,4 +7,4 @@ use Rattle.market.proofs.picks.add_school.Goals as goal
 
 pub returns : goal.returns
 returns c =
-    at_school_is c.args.lanes.now (person (teacher_record c.args.p.now)) c.args.school (listed c.args.out.now) (listed c.add-lanes.new.out) (listed c.add-lanes-2.new.out) c.add-lanes.ensures c.add-lanes-2.ensures
+    at_school_is c.args.lanes.now (person (teacher_record c.args.p.now)) c.args.school (listed c.args.out.now) (listed c.add_lanes.new.out) (listed c.add_lanes-2.new.out) c.add_lanes.ensures c.add_lanes-2.ensures

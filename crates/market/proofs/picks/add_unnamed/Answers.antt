@@ -22,7 +22,7 @@ loop-k-preserved c =
     let w = c.args.wishes.now in
     let xs = listed c.args.out.now in
     let k = c.loop-k.k in
-    more_front 80 xs (gather f (unnamed k w)) (cond (has (k + 1) w) [] (f (k + 1))) (listed c.loop-k.out) (listed c.add-if-unnamed.new.out) c.loop-k.invariant c.add-if-unnamed.ensures
+    more_front 80 xs (gather f (unnamed k w)) (cond (has (k + 1) w) [] (f (k + 1))) (listed c.loop-k.out) (listed c.add_if_unnamed.new.out) c.loop-k.invariant c.add_if_unnamed.ensures
     ∙ ap (λ l. take 80 (xs ++ l)) (sym (unnamed_more f w k))
 
 pub returns : goal.returns

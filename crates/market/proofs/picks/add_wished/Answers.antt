@@ -21,7 +21,7 @@ loop-s-preserved c =
     let xs = listed c.args.out.now in
     let w = c.args.wishes.now in
     let i = c.loop-s.s-index in
-    more_front 80 xs (gather f (take i w)) (f (get_or w i 0)) (listed c.loop-s.out) (listed c.add-school.new.out) c.loop-s.invariant c.add-school.ensures
+    more_front 80 xs (gather f (take i w)) (f (get_or w i 0)) (listed c.loop-s.out) (listed c.add_school.new.out) c.loop-s.invariant c.add_school.ensures
     ∙ ap (λ l. take 80 (xs ++ l)) (sym (gather_more f w i (omega arith)))
 
 pub returns : goal.returns

@@ -11,14 +11,14 @@ pub returns-else-p-ne0 : goal.returns-else-p-ne0
 returns-else-p-ne0 c =
     let q = person (teacher_record c.args.p.now) in
     let w = c.args.wishes.now in
-    picks_of_newcomer (model_of c.args.sheets.now).posts q w (listed c.add-wished.new.out)
-    (c.add-wished.ensures ∙ ap₂ (λ (s : List ℕ) (ls : List LaneRecord). take 80 (s ++ gather (at_school ls q) w)) c.new-out.ensures c.lanes.ensures.value) (omega arith)
+    picks_of_newcomer (model_of c.args.sheets.now).posts q w (listed c.add_wished.new.out)
+    (c.add_wished.ensures ∙ ap₂ (λ (s : List ℕ) (ls : List LaneRecord). take 80 (s ++ gather (at_school ls q) w)) c.new-out.ensures c.lanes.ensures.value) (omega arith)
 
 pub returns-then-p-ne0 : goal.returns-then-p-ne0
 returns-then-p-ne0 c =
     let q = person (teacher_record c.args.p.now) in
     let w = c.args.wishes.now in
-    let xs = listed c.add-wished.new.out in
+    let xs = listed c.add_wished.new.out in
     picks_of_incumbent (model_of c.args.sheets.now).posts q w xs
-    (c.add-wished.ensures ∙ ap₂ (λ (s : List ℕ) (ls : List LaneRecord). take 80 (s ++ gather (at_school ls q) w)) c.new-out.ensures c.lanes.ensures.value) (omega arith)
-    (listed c.add-unnamed.new.out) (c.add-unnamed.ensures ∙ ap₂ (λ (n : ℕ) (ls : List LaneRecord). take 80 (xs ++ gather (at_school ls q) (unnamed n w))) c.schools.ensures c.lanes-then-p-ne0.ensures.value)
+    (c.add_wished.ensures ∙ ap₂ (λ (s : List ℕ) (ls : List LaneRecord). take 80 (s ++ gather (at_school ls q) w)) c.new-out.ensures c.lanes.ensures.value) (omega arith)
+    (listed c.add_unnamed.new.out) (c.add_unnamed.ensures ∙ ap₂ (λ (n : ℕ) (ls : List LaneRecord). take 80 (xs ++ gather (at_school ls q) (unnamed n w))) c.schools.ensures c.lanes-then-p-ne0.ensures.value)

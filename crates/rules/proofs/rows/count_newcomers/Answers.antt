@@ -4,7 +4,7 @@ use Rattle.matching.specs.Groups.{told}
 use Rattle.rules.specs.Limits.{newcomers}
 use Rattle.rules.specs.Tallies.{newcomer, tally_start, tally_in, tally_out, tally_row}
 use Rattle.rules.proofs.rows.count_newcomers.Goals as goal
-use Rattle.rules.proofs.rows.count_newcomers.Goals.{then-mark-ne0+then-is-newcomer, else-mark-ne0, else-mark-ne0-via-then-mark-ne0+else-is-newcomer, else-mark-ne0-via-else-mark-ne0}
+use Rattle.rules.proofs.rows.count_newcomers.Goals.{then-mark-ne0+then-is_newcomer, else-mark-ne0, else-mark-ne0-via-then-mark-ne0+else-is_newcomer, else-mark-ne0-via-else-mark-ne0}
 
 pub loop-i-init : goal.loop-i-init
 loop-i-init c = (tally_start (newcomer c.args.homes.now) (told c.args.row.now), omega arith, omega arith)
@@ -13,9 +13,9 @@ pub loop-i-preserved : goal.loop-i-preserved
 loop-i-preserved c =
     let l : c.loop-i.i < 200 = omega (arith, c.loop-i.invariant.2) in
     elim c.if-mark-ne0.branch [
-      | then-mark-ne0+then-is-newcomer w ↦ let e = tally_in (newcomer c.args.homes.now) (λ _. refl) c.args.row.now c.loop-i.i l (search rules) in (omega (arith, e, ap bit w.if-is-newcomer.ensures, w.sum-is), omega (arith, w.sum-is), omega arith)
+      | then-mark-ne0+then-is_newcomer w ↦ let e = tally_in (newcomer c.args.homes.now) (λ _. refl) c.args.row.now c.loop-i.i l (search rules) in (omega (arith, e, ap bit w.if-is_newcomer.ensures, w.sum-is), omega (arith, w.sum-is), omega arith)
       | else-mark-ne0 w ↦ elim w.else-mark-ne0.branch [
-        | else-mark-ne0-via-then-mark-ne0+else-is-newcomer v ↦ let e = tally_in (newcomer c.args.homes.now) (λ _. refl) c.args.row.now c.loop-i.i l (search rules) in (omega (arith, e, ap bit v.if-is-newcomer.ensures, w.sum-is), omega (arith, w.sum-is), omega arith)
+        | else-mark-ne0-via-then-mark-ne0+else-is_newcomer v ↦ let e = tally_in (newcomer c.args.homes.now) (λ _. refl) c.args.row.now c.loop-i.i l (search rules) in (omega (arith, e, ap bit v.if-is_newcomer.ensures, w.sum-is), omega (arith, w.sum-is), omega arith)
         | else-mark-ne0-via-else-mark-ne0 v ↦ let e = tally_out (newcomer c.args.homes.now) (λ _. refl) c.args.row.now c.loop-i.i (search rules) in (omega (arith, e, w.sum-is), omega (arith, w.sum-is), omega arith)
       ]
     ]

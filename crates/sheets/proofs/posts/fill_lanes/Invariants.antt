@@ -6,7 +6,7 @@ use Rattle.sheets.proofs.posts.fill_lanes.Given as goal
 
 abbrev pub invariant-loop-i : goal.invariant-loop-i
 invariant-loop-i l =
-    (l.line ≡ 4 + 2 * l.-i)
-    × (vec_len l.all ≡ l.-i)
+    (l.line ≡ 4 + 2 * l._i)
+    × (vec_len l.all ≡ l._i)
     × (vec_capacity l.all ≡ vec_capacity l.initial.all)
-    × (lanes l.count l.schools l.subjects l.bytes l.start ≡ repeat (lane l.schools l.subjects l.bytes) 2 (l.count - l.-i) (map lane_record (vec_items l.all)) l.line l.place)
+    × (lanes l.count l.schools l.subjects l.bytes l.start ≡ repeat (lane l.schools l.subjects l.bytes) 2 (l.count - l._i) (map lane_record (vec_items l.all)) l.line l.place)

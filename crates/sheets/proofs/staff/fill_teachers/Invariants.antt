@@ -6,7 +6,7 @@ use Rattle.sheets.proofs.staff.fill_teachers.Given as goal
 
 abbrev pub invariant-loop-i : goal.invariant-loop-i
 invariant-loop-i l =
-    (l.line ≡ 2 + 6 * l.-i)
-    × (vec_len l.all ≡ l.-i)
+    (l.line ≡ 2 + 6 * l._i)
+    × (vec_len l.all ≡ l._i)
     × (vec_capacity l.all ≡ vec_capacity l.initial.all)
-    × (teachers l.count l.schools l.subjects l.bytes 2 l.start ≡ repeat (λ done. teacher l.schools l.subjects l.bytes) 6 (l.count - l.-i) (map teacher_record (vec_items l.all)) l.line l.place)
+    × (teachers l.count l.schools l.subjects l.bytes 2 l.start ≡ repeat (λ done. teacher l.schools l.subjects l.bytes) 6 (l.count - l._i) (map teacher_record (vec_items l.all)) l.line l.place)

@@ -5,4 +5,4 @@ use Rattle.lines.specs.Written.{line}
 use Rattle.sheets.proofs.writes.put_lane.Goals as goal
 
 pub returns : goal.returns
-returns c = then (omega arith) c.put-line-list.ensures (put_at (ap (line ListKey) c.as-slice.ensures.value) c.put-line.ensures)
+returns c = then (omega arith) c.put_line-list.ensures (put_at (ap (line ListKey) c.as_slice.ensures.value) c.put_line.ensures)

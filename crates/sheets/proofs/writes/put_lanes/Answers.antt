@@ -10,7 +10,7 @@ pub loop-i-init : goal.loop-i-init
 loop-i-init c = put_none c.args.buf.now c.args.at (omega arith)
 
 pub loop-i-preserved : goal.loop-i-preserved
-loop-i-preserved c = put_at (each_more lane_bytes lane_record c.args.all.now c.loop-i.i c.index-all-i.result (omega arith) c.index-all-i.is) (then (omega arith) c.loop-i.invariant c.put-lane-end.ensures)
+loop-i-preserved c = put_at (each_more lane_bytes lane_record c.args.all.now c.loop-i.i c.index-all-i.result (omega arith) c.index-all-i.is) (then (omega arith) c.loop-i.invariant c.put_lane-end.ensures)
 
 pub returns : goal.returns
 returns c = put_at (ap (λ l. written_each lane_bytes (map lane_record l)) (take_all c.loop-i.i c.args.all.now (omega arith))) c.loop-i.invariant

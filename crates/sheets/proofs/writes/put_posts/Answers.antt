@@ -8,6 +8,6 @@ use Rattle.sheets.proofs.writes.put_posts.Goals as goal
 
 pub returns : goal.returns
 returns c =
-    then (omega arith) c.put-line-subject-line.ensures
-    (then (omega arith) c.put-line-lane-count.ensures
-    (then (omega arith) (put_at (ap (λ n. line Lanes (n ∷ [])) (sym (length-map c.args.all.now lane_record))) c.put-line-first-lane.ensures) c.put-lanes.ensures))
+    then (omega arith) c.put_line-subject_line.ensures
+    (then (omega arith) c.put_line-lane_count.ensures
+    (then (omega arith) (put_at (ap (λ n. line Lanes (n ∷ [])) (sym (length-map c.args.all.now lane_record))) c.put_line-first_lane.ensures) c.put_lanes.ensures))

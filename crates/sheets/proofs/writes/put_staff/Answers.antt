@@ -8,4 +8,4 @@ use Rattle.sheets.proofs.writes.put_staff.Goals as goal
 
 pub returns : goal.returns
 returns c =
-    then (omega arith) (put_at (ap (λ n. line Teachers (n ∷ [])) (sym (length-map c.args.all.now teacher_record))) c.put-line-first-teacher.ensures) c.put-teachers.ensures
+    then (omega arith) (put_at (ap (λ n. line Teachers (n ∷ [])) (sym (length-map c.args.all.now teacher_record))) c.put_line-first_teacher.ensures) c.put_teachers.ensures

@@ -6,7 +6,7 @@ use Rattle.rules.proofs.Gathers.{gather_row, gather_all}
 use Rattle.rules.proofs.lists.calls.copy_lists.Goals as goal
 
 pub loop-i-preserved : goal.loop-i-preserved
-loop-i-preserved c = (omega arith, omega arith, gather_row listed (λ (k : LaneRecord). k.list) lane_record c.args.lanes.now c.loop-i.i c.index-lanes-i.result _ (vec_items c.loop-i.lists) (vec_items c.push-reserved.new.self) (omega arith) c.index-lanes-i.is (ap (λ (l : Lane). listed l.list) (sym c.index-lanes-i.is)) c.loop-i.invariant.2 c.push-reserved.ensures.items)
+loop-i-preserved c = (omega arith, omega arith, gather_row listed (λ (k : LaneRecord). k.list) lane_record c.args.lanes.now c.loop-i.i c.index-lanes-i.result _ (vec_items c.loop-i.lists) (vec_items c.push_reserved.new.self) (omega arith) c.index-lanes-i.is (ap (λ (l : Lane). listed l.list) (sym c.index-lanes-i.is)) c.loop-i.invariant.2 c.push_reserved.ensures.items)
 
 pub returns : goal.returns
 returns c = record {

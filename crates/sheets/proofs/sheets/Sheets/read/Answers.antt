@@ -7,20 +7,22 @@ pub invariant_of-self : goal.invariant_of-self
 invariant_of-self c =
     let p = c.args.posts.now in
     let s = c.args.staff.now in
-    let ls = vec_items c.read-pair.new.lanes in
-    let ts = vec_items c.read-pair.new.teachers in
-    let e = c.in-Ok.ensures.value in (
-      (omega arith, omega arith),
-      (
-        (omega (arith, read_lanes p s c.in-Ok.schools c.in-Ok.subjects ls ts e, c.read-pair.new.lanes.ok.0), omega (arith, read_teachers p s c.in-Ok.schools c.in-Ok.subjects ls ts e, c.read-pair.new.teachers.ok.0)),
-        (read_kept p s c.in-Ok.schools c.in-Ok.subjects ls ts e, tt),
-      ),
-    )
+    let ls = vec_items c.read_pair.new.lanes in
+    let ts = vec_items c.read_pair.new.teachers in
+    let e = c.in-Ok.ensures.value in
+    record {
+      room = (omega arith, omega arith);
+      few = (
+        omega (arith, read_lanes p s c.in-Ok.schools c.in-Ok.subjects ls ts e, c.read_pair.new.lanes.ok.0),
+        omega (arith, read_teachers p s c.in-Ok.schools c.in-Ok.subjects ls ts e, c.read_pair.new.teachers.ok.0),
+      );
+      kept = read_kept p s c.in-Ok.schools c.in-Ok.subjects ls ts e;
+    }
 
 pub returns-in-Ok : goal.returns-in-Ok
 returns-in-Ok c = record {
   value = ap reading c.in-Ok.ensures.value;
-  described = read_describes c.args.posts.now c.args.staff.now c.in-Ok.schools c.in-Ok.subjects (vec_items c.read-pair.new.lanes) (vec_items c.read-pair.new.teachers) c.in-Ok.ensures.value;
+  described = read_describes c.args.posts.now c.args.staff.now c.in-Ok.schools c.in-Ok.subjects (vec_items c.read_pair.new.lanes) (vec_items c.read_pair.new.teachers) c.in-Ok.ensures.value;
 }
 
 pub returns-in-Err : goal.returns-in-Err

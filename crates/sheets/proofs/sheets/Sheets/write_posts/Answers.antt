@@ -16,11 +16,11 @@ returns-then-size-buf c =
     let m = model_of c.args.self.now in
     let whole : List Lane → List ℕ = λ ls. posts_bytes (posts_model c.args.self.now.schools c.args.self.now.subjects ls) in
     some_posts_sheet m (omega arith) c.args.buf.now _ _
-    (written_not (posts_bytes m.posts) c.args.buf.now c.put-posts-size.result (omega arith) (c.put-posts-size.ensures.end ∙ ap (λ ls. min (0 + length (whole ls)) (2 ^ 64 - 1)) c.as-slice.ensures.value))
+    (written_not (posts_bytes m.posts) c.args.buf.now c.put_posts-size.result (omega arith) (c.put_posts-size.ensures.end ∙ ap (λ ls. min (0 + length (whole ls)) (2 ^ 64 - 1)) c.as_slice.ensures.value))
 
 pub returns : goal.returns
 returns c =
     let m = model_of c.args.self.now in
     let whole : List Lane → List ℕ = λ ls. posts_bytes (posts_model c.args.self.now.schools c.args.self.now.subjects ls) in
     some_posts_sheet m (omega arith) c.args.buf.now _ _
-    (written_ok (posts_bytes m.posts) c.args.buf.now c.put-posts.new.buf c.put-posts-size.result c.put-posts.result (omega arith) (omega arith) (c.put-posts-size.ensures.end ∙ ap (λ ls. min (0 + length (whole ls)) (2 ^ 64 - 1)) c.as-slice.ensures.value) (put_at (ap whole c.as-slice-2.ensures.value) c.put-posts.ensures))
+    (written_ok (posts_bytes m.posts) c.args.buf.now c.put_posts.new.buf c.put_posts-size.result c.put_posts.result (omega arith) (omega arith) (c.put_posts-size.ensures.end ∙ ap (λ ls. min (0 + length (whole ls)) (2 ^ 64 - 1)) c.as_slice.ensures.value) (put_at (ap whole c.as_slice-2.ensures.value) c.put_posts.ensures))

@@ -18,10 +18,10 @@ pub returns-then-size-buf : goal.returns-then-size-buf
 returns-then-size-buf c =
     let m = model_of c.args.self.now in
     some_staff_sheet m (omega arith) c.args.buf.now _ _
-    (written_not (staff_bytes m.teachers) c.args.buf.now c.put-staff-size.result (omega arith) (c.put-staff-size.ensures.end ∙ ap (λ ts. min (0 + length (whole ts)) (2 ^ 64 - 1)) c.as-slice.ensures.value))
+    (written_not (staff_bytes m.teachers) c.args.buf.now c.put_staff-size.result (omega arith) (c.put_staff-size.ensures.end ∙ ap (λ ts. min (0 + length (whole ts)) (2 ^ 64 - 1)) c.as_slice.ensures.value))
 
 pub returns : goal.returns
 returns c =
     let m = model_of c.args.self.now in
     some_staff_sheet m (omega arith) c.args.buf.now _ _
-    (written_ok (staff_bytes m.teachers) c.args.buf.now c.put-staff.new.buf c.put-staff-size.result c.put-staff.result (omega arith) (omega arith) (c.put-staff-size.ensures.end ∙ ap (λ ts. min (0 + length (whole ts)) (2 ^ 64 - 1)) c.as-slice.ensures.value) (put_at (ap whole c.as-slice-2.ensures.value) c.put-staff.ensures))
+    (written_ok (staff_bytes m.teachers) c.args.buf.now c.put_staff.new.buf c.put_staff-size.result c.put_staff.result (omega arith) (omega arith) (c.put_staff-size.ensures.end ∙ ap (λ ts. min (0 + length (whole ts)) (2 ^ 64 - 1)) c.as_slice.ensures.value) (put_at (ap whole c.as_slice-2.ensures.value) c.put_staff.ensures))
