@@ -1,5 +1,5 @@
 -- One line of a sheet. Assumes nothing.
-use Rattle.std.specs.Prelude.{ℕ, ◌+◌, Bool, cond, ◌&&◌, List, [], ◌∷◌, length, take, drop, Some, None, Ok, Err, Option, Result, nat_le, nat_lt}
+use Rattle.std.specs.Prelude.{ℕ, ◌+◌, cond, ◌&&◌, List, length, take, drop, Some, None, Ok, Err, Option, Result, nat_le, nat_lt}
 use Rattle.text.specs.Number.{before}
 use Rattle.text.specs.Commas.{numbers}
 use Rattle.lines.specs.declared.keys.Key.{Key}

@@ -1,6 +1,6 @@
 -- The market that tables of lanes and teachers, a standing and a limit make up. Inside, lanes and teachers go by their index, which is the number
 -- on the sheet less 1; schools and subjects go by their numbers. Assumes nothing.
-use Rattle.std.specs.Prelude.{ℕ, suc, ◌+◌, Bool, true, false, cond, not, ◌&&◌, ◌||◌, List, [], ◌∷◌, ◌++◌, map, length, ◌==◌, nat_lt, slice_index_or}
+use Rattle.std.specs.Prelude.{ℕ, ◌+◌, Bool, cond, not, ◌&&◌, ◌||◌, List, [], ◌∷◌, ◌++◌, map, length, ◌==◌, nat_lt, slice_index_or}
 use Rattle.lines.specs.Entries.{has}
 use Rattle.matching.specs.Groups.{Group}
 use Rattle.matching.specs.Market.{Market}

@@ -1,10 +1,9 @@
 -- The cutoffs stay in bounds, settle ends, and its presses are the rise of the cutoffs. Assumes nothing.
-use Rattle.std.proofs.Common.{◌≡◌, ℕ, zero, suc, ◌+◌, ◌*◌, ◌<◌, ◌≤◌, Bool, true, false, cond, eqb, ◌≢◌, ◌⊎◌, List, Some, None, Option, sym, refl, ap, inl, inr, le_refl, arith}
+use Rattle.std.proofs.Common.{◌≡◌, ℕ, zero, suc, ◌+◌, ◌*◌, ◌<◌, ◌≤◌, Bool, true, false, eqb, List, Some, None, Option, refl, ap, inl, inr, arith}
 use Rattle.std.proofs.lemmas.Bool.{cases_Bool, both_ways, eqb-true, eq-eqb, ne_eqb}
-use Rattle.matching.specs.Picks.{holds}
-use Rattle.matching.specs.Count.{sum_to, count}
-use Rattle.matching.specs.Market.{Market, board_of, Laws, rank, crowd, clears, offer, askers, over_asked}
-use Rattle.matching.specs.Log.{raise, pressed, next, least, on_some, settled, presses}
+use Rattle.matching.specs.Count.{sum_to}
+use Rattle.matching.specs.Market.{Market, board_of, Laws, crowd, askers, over_asked}
+use Rattle.matching.specs.Log.{raise, pressed, next, on_some, settled, presses}
 use Rattle.matching.proofs.Counts.{sum_bound, sum_least, sum_one, some_or_none}
 use Rattle.matching.proofs.Lists.{holds_true, not_both, least_some, least_none}
 use Rattle.matching.proofs.RankLaws.{rank_high, crowd_high}

@@ -1,14 +1,14 @@
 -- Every incumbent has an offer where there is room. Assumes nothing.
-use Rattle.std.proofs.Common.{◌≡◌, ℕ, zero, suc, ◌+◌, ◌<◌, ◌≤◌, Bool, true, false, cond, not, ◌&&◌, eqb, ltb, leb, ◌≢◌, ◌⊎◌, List, Some, None, Option, sym, refl, ap, inl, inr, le_refl, arith}
-use Rattle.std.proofs.lemmas.Bool.{cases_Bool, cases_eq, cases_lt, and_parts, and_from, and_right, both_ways, eqb-true, eq-eqb, ne_eqb, ltb-true, lt-ltb, le-ltb}
-use Rattle.matching.specs.Picks.{place_of, place, On, holds}
-use Rattle.matching.specs.Count.{sum_to, count}
+use Rattle.std.proofs.Common.{◌≡◌, ℕ, ◌+◌, ◌<◌, ◌≤◌, Bool, true, cond, ◌&&◌, eqb, ◌≢◌, ◌⊎◌, List, Some, None, sym, refl, inl, inr, arith}
+use Rattle.std.proofs.lemmas.Bool.{cases_Bool, cases_eq, cases_lt, and_parts, and_from, both_ways, eqb-true, eq-eqb, ne_eqb}
+use Rattle.matching.specs.Picks.{holds}
+use Rattle.matching.specs.Count.{count}
 use Rattle.matching.specs.Market.{Market, board_of, Laws, OwnLaws, OwnPicked, own, rank, clears, offer, askers, over_asked}
 use Rattle.matching.specs.Log.{raise}
 use Rattle.matching.specs.Promise.{Room}
-use Rattle.matching.proofs.Counts.{count_le, count_lt, count_but, some_or_none}
-use Rattle.matching.proofs.Lists.{holds_true, holds_some, some_inj, not_both, missing}
-use Rattle.matching.proofs.RankLaws.{rank_before, before_rank, rank_same, rank_low}
+use Rattle.matching.proofs.Counts.{count_le, count_but, some_or_none}
+use Rattle.matching.proofs.Lists.{holds_true, holds_some, missing}
+use Rattle.matching.proofs.RankLaws.{rank_before, rank_same, rank_low}
 use Rattle.matching.proofs.Offers.{clears_parts, clears_from, offer_on, offer_best, over_parts, still_clear, offer_stays}
 
 -- all own incumbents clear the lane, or q of them ask for it

@@ -1,9 +1,9 @@
 -- Every line of every log. Assumes nothing.
-use Rattle.std.proofs.Common.{◌≡◌, ℕ, zero, suc, ◌+◌, ◌-◌, ◌*◌, ◌<◌, ◌≤◌, Bool, true, false, cond, not, ◌&&◌, eqb, List, [], ◌∷◌, Some, None, Option, refl, arith}
+use Rattle.std.proofs.Common.{◌≡◌, ℕ, ◌-◌, Bool, true, false, not, ◌&&◌, List, [], ◌∷◌, Some, None, Option, refl, arith}
 use Rattle.std.proofs.lemmas.Nat.{mul-le}
 use Rattle.std.proofs.lemmas.Bool.{cond_both, and_parts, both_ways, eqb-true, not-true, not-false}
 use Rattle.matching.specs.Market.{Market, board_of, Laws, OwnLaws, Picked, OwnPicked, over_asked, Calm}
-use Rattle.matching.specs.Log.{Call, wish, press, sweep, settle, post, State, picks, opened, accepted, done, after, line, raise, within, next, on_some}
+use Rattle.matching.specs.Log.{Call, wish, press, sweep, settle, post, State, picks, opened, accepted, done, after, line, within, next, on_some}
 use Rattle.matching.specs.Promise.{Room, Best, IncumbentsKept, EveryLineKeepsThePromise, BestAndFairWithoutBands, CutoffsStayBounded, SettleEnds, SixteenThousandSuffice, PostedIsCalm}
 use Rattle.matching.proofs.Offers.{Sees, sees_open, sees_raise, best_of, offers_fair}
 use Rattle.matching.proofs.Incumbents.{Held, held_open, held_raise, kept_of}

@@ -1,10 +1,8 @@
 -- The end of pressing is the lowest calm table above the start. Assumes nothing.
-use Rattle.std.proofs.Common.{◌≡◌, ℕ, suc, ◌<◌, ◌≤◌, Bool, true, false, List, Some, None, refl, inl, inr, le_refl, arith}
+use Rattle.std.proofs.Common.{◌≡◌, ℕ, ◌≤◌, true, List, Some, inl, inr, le_refl, arith}
 use mathlib.Core.Path.{fun_ext}
 use Rattle.std.proofs.lemmas.Bool.{cases_Bool, cases_lt, both_ways}
-use Rattle.matching.specs.Picks.{holds}
-use Rattle.matching.specs.Market.{Market, board_of, Laws, clears, offer, askers, over_asked, Calm}
-use Rattle.matching.specs.Log.{raise}
+use Rattle.matching.specs.Market.{Market, board_of, Laws, clears, offer, askers, Calm}
 use Rattle.matching.specs.Order.{Leads, stop, more, PressesStayLowest, PressesEndAlike}
 use Rattle.matching.proofs.Lists.{holds_true, holds_some, first_stays}
 use Rattle.matching.proofs.Offers.{clears_parts, clears_from, offer_on, over_parts, not_over, raise_yes, raise_no, raise_low}

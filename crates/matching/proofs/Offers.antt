@@ -1,13 +1,11 @@
 -- Offers, and the claims that hold as cutoffs rise. Assumes nothing.
-use Rattle.std.proofs.Common.{◌≡◌, ℕ, zero, suc, ◌+◌, ◌-◌, ◌<◌, ◌≤◌, Bool, true, false, cond, not, ◌&&◌, eqb, ltb, leb, ◌≢◌, ◌⊎◌, List, length, Some, None, Option, sym, refl, ap, inl, inr, le_refl, arith}
-use Rattle.std.proofs.lemmas.Bool.{cases_Bool, cases_eq, cases_lt, and_parts, and_from, and_right, and_cases, both_ways, leb-true, le-leb, ltb-true, lt-ltb, not-true, not-false}
+use Rattle.std.proofs.Common.{◌≡◌, ℕ, suc, ◌-◌, ◌<◌, ◌≤◌, Bool, true, false, ltb, leb, ◌≢◌, List, Some, None, Option, refl, inl, inr, arith}
+use Rattle.std.proofs.lemmas.Bool.{cases_Bool, and_parts, and_from, and_cases, both_ways, leb-true, le-leb, ltb-true, lt-ltb, not-true, not-false}
 use Rattle.matching.specs.Picks.{place_of, place, On, holds}
-use Rattle.matching.specs.Count.{count}
-use Rattle.matching.specs.Market.{Market, Board, board_of, Laws, Picked, rank, crowd, clears, offer, askers, over_asked, Fair}
+use Rattle.matching.specs.Market.{Market, Board, board_of, Laws, Picked, rank, clears, offer, askers, over_asked, Fair}
 use Rattle.matching.specs.Log.{raise}
-use Rattle.matching.proofs.Counts.{count_le, count_but, some_or_none}
-use Rattle.matching.proofs.Lists.{holds_true, holds_some, some_inj, not_both, place_any, strictly, first_on, first_best, first_stays}
-use Rattle.matching.proofs.RankLaws.{rank_before, before_rank, rank_same, rank_low, rank_high}
+use Rattle.matching.proofs.Lists.{holds_true, holds_some, place_any, strictly, first_on, first_best, first_stays}
+use Rattle.matching.proofs.RankLaws.{rank_before, before_rank, rank_same, rank_low}
 
 -- who clears, by any board
 pub board_clears_parts : (bd : Board) (s : ℕ → ℕ) (t l : ℕ) → clears bd s t l ≡ true → (0 < bd.rank_at l t) × (s l ≤ bd.rank_at l t)

@@ -1,6 +1,6 @@
 -- One order after another is an order. Assumes nothing.
-use Rattle.std.proofs.Common.{◌≡◌, ℕ, ◌<◌, Bool, true, false, cond, ◌||◌, ltb, ◌⊎◌, sym, refl, ap, inl, inr, arith}
-use Rattle.std.proofs.lemmas.Bool.{cases_Bool, cases_order, cases_lt, both_ways, or_cases, or_left, or_right, ltb-true, lt-ltb, le-ltb, cond-true, cond-false}
+use Rattle.std.proofs.Common.{◌≡◌, ℕ, Bool, true, false, cond, ◌||◌, ltb, ◌⊎◌, refl, inl, inr, arith}
+use Rattle.std.proofs.lemmas.Bool.{cases_Bool, cases_order, cases_lt, both_ways, or_cases, or_left, or_right, ltb-true, lt-ltb, le-ltb}
 use Rattle.matching.specs.Orders.{Weak, Total, then_by}
 
 -- the numbers that a measure gives, in their order

@@ -1,5 +1,5 @@
 -- Ranks tell who stands before, and are the numbers from 1 to the number of the licensed. Assumes nothing.
-use Rattle.std.proofs.Common.{◌≡◌, ℕ, zero, suc, ◌+◌, ◌-◌, ◌<◌, ◌≤◌, Bool, true, false, cond, not, ◌&&◌, eqb, ◌≢◌, ◌⊎◌, sym, refl, ap, inl, inr, le_refl, arith}
+use Rattle.std.proofs.Common.{◌≡◌, ℕ, zero, suc, ◌+◌, ◌-◌, ◌<◌, ◌≤◌, Bool, true, false, not, ◌&&◌, eqb, ◌≢◌, ◌⊎◌, refl, ap, inl, inr, le_refl, arith}
 use Rattle.std.proofs.lemmas.Bool.{cases_Bool, cases_eq, and_parts, and_from, and_right, both_ways, eqb-true, eq-eqb, ne_eqb, not-true, not_from_false}
 use Rattle.matching.specs.Count.{count, bit}
 use Rattle.matching.specs.Market.{Market, Laws, rank, crowd}

@@ -1,9 +1,9 @@
 -- The wishes of a log's last line are those of the last accepted wishes. Assumes nothing.
-use Rattle.std.proofs.Common.{◌≡◌, ℕ, zero, suc, ◌+◌, ◌-◌, ◌<◌, ◌≤◌, Bool, true, false, cond, not, ◌&&◌, eqb, ltb, leb, ◌⊎◌, List, [], ◌∷◌, ◌++◌, length, get_or, take, sym, refl, ap, ◌∙◌, subst, inl, inr, le_refl, arith, take_all, take-suc}
+use Rattle.std.proofs.Common.{◌≡◌, ℕ, zero, suc, ◌+◌, ◌-◌, ◌<◌, ◌≤◌, true, false, not, ◌&&◌, eqb, ltb, leb, ◌⊎◌, List, [], ◌∷◌, ◌++◌, length, get_or, take, sym, refl, ap, ◌∙◌, subst, inl, inr, le_refl, arith, take_all, take-suc}
 use Rattle.std.proofs.lemmas.Bool.{cases_Bool, cases_eq, cases_order, both_ways, and_parts, ltb-true, eq-eqb, ne_eqb, cond-true, cond-false, cond_both}
 use Rattle.matching.specs.Market.{Board}
-use Rattle.matching.specs.Log.{Call, wish, press, sweep, settle, post, State, opened, accepted, done, after, line, within, put}
-use Rattle.matching.specs.Wishes.{AcceptedWish, LastWish, NoWish, WishNow, OneWishNow}
+use Rattle.matching.specs.Log.{Call, wish, press, sweep, settle, post, State, opened, accepted, done, after, line, within}
+use Rattle.matching.specs.Wishes.{AcceptedWish, LastWish, WishNow, OneWishNow}
 
 module _ (bd : Board) where
   pub after_yes : (s : State) (c : Call) → accepted bd s c ≡ true → after bd s c ≡ done bd s c

@@ -1,7 +1,7 @@
 -- A matching market: teachers are the numbers below `teachers`, lanes the numbers below `lanes`. Each lane has a priority order of the teachers licensed for it,
 -- and says which groups of teachers it can take (a general upper bound). Assumes nothing.
-use Rattle.std.specs.Prelude.{◌≡◌, ℕ, zero, suc, ◌+◌, ◌<◌, ◌≤◌, Bool, true, false, cond, not, ◌&&◌, ◌⊎◌, List, Some, None, Option, ◌==◌, ◌≢◌, nat_le, nat_lt}
-use Rattle.matching.specs.Count.{sum_to, count}
+use Rattle.std.specs.Prelude.{◌≡◌, ℕ, suc, ◌<◌, Bool, true, false, cond, not, ◌&&◌, ◌⊎◌, List, Some, Option, ◌==◌, ◌≢◌, nat_le, nat_lt}
+use Rattle.matching.specs.Count.{count}
 use Rattle.matching.specs.Groups.{Group, nobody, Part}
 use Rattle.matching.specs.Picks.{place, On, first, holds}
 

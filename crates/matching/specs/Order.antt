@@ -1,5 +1,5 @@
 -- In whatever order over-asked lanes are pressed, the end is the same. Assumes nothing.
-use Rattle.std.specs.Prelude.{◌≡◌, ℕ, ◌<◌, ◌≤◌, Bool, true, false, List}
+use Rattle.std.specs.Prelude.{◌≡◌, ℕ, ◌≤◌, Bool, true, List}
 use Rattle.matching.specs.Market.{Market, Board, board_of, Laws, over_asked, Calm}
 use Rattle.matching.specs.Log.{raise}
 

@@ -1,5 +1,5 @@
 -- Pick lists: a teacher's preferences over lanes. An earlier lane is better, none is worst, and a lane off the list is not liked at all. Assumes nothing.
-use Rattle.std.specs.Prelude.{ℕ, zero, suc, ◌<◌, Bool, true, false, cond, List, [], ◌∷◌, length, Some, None, Option, ◌==◌}
+use Rattle.std.specs.Prelude.{ℕ, zero, suc, ◌<◌, Bool, false, cond, List, [], ◌∷◌, length, Some, None, Option, ◌==◌}
 
 -- where the lane stands on the list, from 0; the list's length if it is not on it
 unfoldable pub place_of : ℕ → List ℕ → ℕ

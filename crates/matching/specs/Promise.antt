@@ -1,10 +1,10 @@
 -- What holds at every line of every log. Assumes nothing.
-use Rattle.std.specs.Prelude.{◌≡◌, ℕ, zero, suc, ◌+◌, ◌*◌, ◌<◌, ◌≤◌, Bool, true, false, cond, ◌&&◌, List, Some, None, Option, ◌==◌, ◌≢◌}
+use Rattle.std.specs.Prelude.{◌≡◌, ℕ, suc, ◌+◌, ◌*◌, ◌<◌, ◌≤◌, true, cond, ◌&&◌, List, None, Option, ◌==◌, ◌≢◌}
 use Rattle.matching.specs.Count.{sum_to, count}
 use Rattle.matching.specs.Groups.{Group}
 use Rattle.matching.specs.Picks.{place}
 use Rattle.matching.specs.Market.{Market, board_of, Laws, OwnLaws, Picked, OwnPicked, own, crowd, offer, over_asked, Calm, Fair}
-use Rattle.matching.specs.Log.{Call, settle, post, State, opened, picks, after, line, settled, presses}
+use Rattle.matching.specs.Log.{Call, settle, State, opened, picks, after, line, settled, presses}
 use Rattle.matching.specs.Wishes.{WishNow}
 
 -- the lanes have room for the incumbents: lane l can take any q l of its own incumbents, and over the lanes of a subject these numbers make up at least

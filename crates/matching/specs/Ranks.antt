@@ -1,5 +1,5 @@
 -- Ranks number the licensed teachers of a lane from 1, the last in the priority order first. Assumes nothing.
-use Rattle.std.specs.Prelude.{◌≡◌, ℕ, suc, ◌<◌, ◌≤◌, Bool, true}
+use Rattle.std.specs.Prelude.{◌≡◌, ℕ, ◌<◌, ◌≤◌, Bool, true}
 use Rattle.matching.specs.Count.{count}
 use Rattle.matching.specs.Groups.{Group}
 use Rattle.matching.specs.Market.{Market, Laws, rank}

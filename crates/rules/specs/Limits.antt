@@ -1,5 +1,5 @@
 -- Which groups fit. A group goes by the teacher's index, the number less 1; there are at most 200 teachers. Assumes nothing.
-use Rattle.std.specs.Prelude.{ℕ, ◌+◌, Bool, cond, ◌&&◌, List, length, ◌==◌, nat_le, slice_index, slice_index_or}
+use Rattle.std.specs.Prelude.{ℕ, Bool, cond, ◌&&◌, List, length, ◌==◌, nat_le, slice_index, slice_index_or}
 use Rattle.matching.specs.Count.{sum_to, count}
 use Rattle.matching.specs.Groups.{Group}
 use Rattle.matching.specs.Log.{within}

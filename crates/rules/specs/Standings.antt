@@ -1,5 +1,5 @@
 -- Who is ahead of whom. Assumes nothing.
-use Rattle.std.specs.Prelude.{ℕ, Bool, cond, ◌&&◌, List, [], length, nat_lt}
+use Rattle.std.specs.Prelude.{ℕ, Bool, cond, ◌&&◌, [], length, nat_lt}
 use Rattle.matching.specs.Log.{within}
 use Rattle.matching.specs.Picks.{place_of}
 use Rattle.rules.specs.Views.{entry, PointsView, ListsView}

@@ -1,5 +1,5 @@
 -- What the standings and limits keep of the two sheets. Teachers and lanes go by their numbers, from 1. Assumes nothing.
-use Rattle.std.specs.Prelude.{ℕ, ◌-◌, Bool, cond, List, map, length, nat_lt, slice_index_or}
+use Rattle.std.specs.Prelude.{ℕ, ◌-◌, cond, List, map, length, nat_lt, slice_index_or}
 use Rattle.sheets.specs.Model.{LaneRecord, TeacherRecord, SheetsModel}
 
 -- the entry with the number n, or d where there is none

@@ -1,10 +1,10 @@
 -- Sheets that are kept are blank exactly if they have no school.
-use Rattle.std.proofs.Common.{◌≡◌, ℕ, ◌+◌, ◌-◌, ◌^◌, ◌<◌, ◌≤◌, min, Bool, true, false, cond, ◌&&◌, ◌||◌, eqb, leb, List, [], ◌∷◌, ◌++◌, length, drop, Ok, Err, Result, sym, refl, ap, ◌∙◌, ap₂, arith}
-use Rattle.std.proofs.lemmas.Bool.{eq-eqb, ne_eqb, cond-true, cond-false, le-leb, and_parts, leb-true}
+use Rattle.std.proofs.Common.{◌≡◌, ℕ, ◌≤◌, Bool, true, false, cond, ◌&&◌, ◌||◌, eqb, leb, List, [], length, Ok, Result, sym, refl, ap, ◌∙◌, arith}
+use Rattle.std.proofs.lemmas.Bool.{ne_eqb, le-leb, and_parts, leb-true}
 use Rattle.lines.specs.Entries.{within}
 use Rattle.sheets.specs.declared.refusals.WriteRefusal.{WriteRefusal}
 use Rattle.sheets.specs.Model.{SheetsModel}
-use Rattle.sheets.specs.Ranges.{in_range, is_blank, posts_ok, staff_ok, every, lane_ok, apart}
+use Rattle.sheets.specs.Ranges.{in_range, is_blank, posts_ok, staff_ok}
 use Rattle.sheets.specs.Tables.{kept, posts_sheet, staff_sheet}
 use Rattle.sheets.specs.Written.{writing, posts_bytes, staff_bytes}
 

@@ -1,15 +1,14 @@
 -- What holds after a reading.
-use Rattle.std.proofs.Common.{◌≡◌, ℕ, ◌≤◌, Bool, true, false, ◌&&◌, ◌||◌, leb, List, [], ◌∷◌, map, length, Ok, Err, Result, sym, refl, ap, ◌∙◌, ap₂, arith}
+use Rattle.std.proofs.Common.{◌≡◌, ℕ, ◌≤◌, Bool, true, false, ◌||◌, leb, List, [], length, Ok, Err, Result, sym, refl, ap, ◌∙◌, ap₂, arith}
 use Rattle.std.proofs.lemmas.List.{length-map}
 use Rattle.std.proofs.lemmas.Bool.{and_parts, leb-true}
-use Rattle.std.proofs.lemmas.Bool.Decides.{nat_tests}
 use Rattle.lines.specs.declared.faults.Fault.{Fault}
 use Rattle.lines.specs.Entries.{within}
 use Rattle.sheets.specs.declared.records.Lane.{Lane}
 use Rattle.sheets.specs.declared.records.Teacher.{Teacher}
 use Rattle.sheets.specs.Described.{Describes, Undescribed}
-use Rattle.sheets.specs.Model.{SheetsModel, blank, lane_record, teacher_record}
-use Rattle.sheets.specs.Ranges.{in_range, is_blank, posts_ok, staff_ok, every, lane_ok, apart, teacher_ok}
+use Rattle.sheets.specs.Model.{SheetsModel, lane_record, teacher_record}
+use Rattle.sheets.specs.Ranges.{in_range, is_blank, posts_ok, staff_ok}
 use Rattle.sheets.specs.Read.{sheets_of, reading}
 use Rattle.sheets.specs.Tables.{tables_model, kept}
 use Rattle.sheets.proofs.Canonical.{canonical}

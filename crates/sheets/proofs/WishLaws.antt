@@ -1,15 +1,14 @@
 -- Sheets with another wish list for one teacher.
-use Rattle.std.proofs.Common.{◌≡◌, ℕ, zero, suc, ◌<◌, ◌≤◌, Bool, true, false, cond, ◌&&◌, ◌||◌, eqb, ltb, leb, List, [], ◌∷◌, map, length, get_or, take, set, sym, refl, ap, ◌∙◌, ap₂, arith, length-set}
+use Rattle.std.proofs.Common.{◌≡◌, ℕ, zero, suc, ◌<◌, ◌≤◌, Bool, true, false, ◌&&◌, ◌||◌, eqb, ltb, leb, List, [], ◌∷◌, map, length, get_or, take, set, sym, refl, ap, ◌∙◌, arith, length-set}
 use Rattle.std.proofs.lemmas.List.{take_all, map-set, length-map, get_or-map}
-use Rattle.std.proofs.lemmas.Bool.{and_parts, and_from, and_left, and_right, cases_Bool, both_ways, cond-true, cond-false, lt-ltb, le-ltb, eqb-true, leb-true}
+use Rattle.std.proofs.lemmas.Bool.{and_parts, and_from, cond-true, cond-false, lt-ltb, le-ltb, eqb-true, leb-true}
 use Rattle.bounded.specs.declared.list.BoundedList.{BoundedList}
 use Rattle.bounded.specs.Listed.{listed}
 use Rattle.lines.specs.Entries.{within, distinct, further}
-use Rattle.sheets.specs.declared.records.Lane.{Lane}
 use Rattle.sheets.specs.declared.records.Teacher.{Teacher}
 use Rattle.sheets.specs.Model.{SheetsModel, TeacherRecord, teacher_record}
 use Rattle.sheets.specs.Ranges.{every, few_within, wish_ok, teacher_ok, staff_ok, posts_ok, in_range, is_blank}
-use Rattle.sheets.specs.Tables.{tables_model, kept, with_wish, nobody, rewished}
+use Rattle.sheets.specs.Tables.{kept, with_wish, nobody, rewished}
 
 pub every_at : {A : Type 0} (p : A → Bool) (xs : List A) (i : ℕ) (d : A) → every p xs ≡ true → i < length xs → p (get_or xs i d) ≡ true
 every_at p [] i d h l = absurd (omega arith)

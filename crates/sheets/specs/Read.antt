@@ -2,7 +2,7 @@
 use Rattle.std.specs.Prelude.{ℕ, List, Ok, Err, Result}
 use Rattle.lines.specs.declared.faults.Fault.{Fault}
 use Rattle.lines.specs.Faults.{bind}
-use Rattle.sheets.specs.Model.{PostsModel, SheetsModel, TeacherRecord, blank}
+use Rattle.sheets.specs.Model.{SheetsModel, blank}
 use Rattle.sheets.specs.Posts.{posts_of}
 use Rattle.sheets.specs.Staff.{staff_of}
 

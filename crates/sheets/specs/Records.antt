@@ -1,5 +1,5 @@
 -- Several records one after another. Assumes nothing.
-use Rattle.std.specs.Prelude.{ℕ, zero, suc, ◌+◌, List, [], ◌∷◌, ◌++◌, Ok, Err, Result}
+use Rattle.std.specs.Prelude.{ℕ, zero, suc, ◌+◌, List, [], ◌∷◌, ◌++◌, Ok, Result}
 use Rattle.lines.specs.declared.faults.Fault.{Fault}
 use Rattle.lines.specs.Faults.{bind}
 

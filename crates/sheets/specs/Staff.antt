@@ -1,5 +1,5 @@
 -- The staff sheet, as read. Assumes nothing.
-use Rattle.std.specs.Prelude.{ℕ, ◌+◌, ◌*◌, Bool, cond, List, [], ◌∷◌, length, Ok, Err, Result, ◌==◌, nat_le}
+use Rattle.std.specs.Prelude.{ℕ, ◌+◌, ◌*◌, cond, List, [], length, Ok, Err, Result, ◌==◌, nat_le}
 use Rattle.lines.specs.declared.keys.Key.TheVariants.{Teachers, Home, Main, Wish, Points, Cost}
 use Rattle.lines.specs.declared.faults.Fault.{Fault}
 use Rattle.lines.specs.declared.faults.FaultKind.TheVariants.{TooLong, Trailing}

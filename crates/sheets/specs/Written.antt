@@ -2,10 +2,9 @@
 use Rattle.std.specs.Prelude.{ℕ, cond, List, [], ◌∷◌, ◌++◌, length, drop, Ok, Err, Result, nat_le}
 use Rattle.sheets.specs.declared.refusals.WriteRefusal.{WriteRefusal}
 use Rattle.sheets.specs.declared.refusals.WriteRefusal.TheVariants.{BufferTooShort}
-use Rattle.lines.specs.declared.keys.Key.{Key}
 use Rattle.lines.specs.declared.keys.Key.TheVariants.{Schools, Subjects, Lanes, Lane as LaneKey, List as ListKey, Teachers, Home, Main, Also, Wish, Points, Cost}
 use Rattle.lines.specs.Written.{line}
-use Rattle.sheets.specs.Model.{LaneRecord, TeacherRecord, PostsModel, SheetsModel}
+use Rattle.sheets.specs.Model.{LaneRecord, TeacherRecord, PostsModel}
 
 -- what f writes of each, one after another
 abbrev pub written_each : {A : Type 0} → (A → List ℕ) → List A → List ℕ

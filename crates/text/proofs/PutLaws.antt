@@ -1,8 +1,8 @@
 -- Bytes written into a buffer, one after another.
-use Rattle.std.proofs.Common.{◌≡◌, ℕ, zero, suc, ◌+◌, ◌-◌, ◌^◌, ◌<◌, ◌≤◌, min, List, [], ◌∷◌, ◌++◌, map, length, get_or, take, drop, decimal, sym, refl, ap, ◌∙◌, subst, ap₂, append_assoc, append-nil, add-zero, zero-add, arith, length-append, length-drop, take-append-drop, length-take}
+use Rattle.std.proofs.Common.{◌≡◌, ℕ, zero, suc, ◌+◌, ◌-◌, ◌^◌, ◌<◌, ◌≤◌, min, List, [], ◌∷◌, ◌++◌, length, get_or, take, drop, decimal, sym, refl, ap, ◌∙◌, subst, ap₂, append_assoc, add-zero, arith, length-append, length-drop, take-append-drop, length-take}
 use borrow.Rule.Slice.PartMut.{put_mid}
-use Rattle.std.proofs.lemmas.List.{drop-drop, take_at, drop_at, length-take-le, take_more, map_more}
-use Rattle.text.specs.Commas.{join, commas}
+use Rattle.std.proofs.lemmas.List.{drop-drop, take_at, drop_at, length-take-le, take_more}
+use Rattle.text.specs.Commas.{commas}
 use Rattle.text.specs.Puts.{put, Put, entry}
 
 -- after a copy into a part of the buffer

@@ -1,5 +1,5 @@
 -- Bytes written into a lent buffer. Assumes nothing.
-use Rattle.std.specs.Prelude.{◌≡◌, ℕ, zero, suc, ◌+◌, ◌-◌, ◌^◌, ◌≤◌, min, List, [], ◌∷◌, ◌++◌, length, take, drop, decimal}
+use Rattle.std.specs.Prelude.{◌≡◌, ℕ, zero, suc, ◌+◌, ◌-◌, ◌^◌, ◌≤◌, min, List, ◌∷◌, ◌++◌, length, take, drop, decimal}
 
 -- the buffer d with s in it from `at` on
 abbrev pub put : List ℕ → ℕ → List ℕ → List ℕ

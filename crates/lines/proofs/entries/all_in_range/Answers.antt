@@ -1,7 +1,5 @@
-use Rattle.std.proofs.Common.{◌≡◌, ◌+◌, ◌<◌, ◌&&◌, leb, length, get_or, drop, sym, ◌∙◌, arith}
-use Rattle.std.proofs.lemmas.List.{at_drop_more, at_drop_all}
+use Rattle.std.proofs.Common.{sym, ◌∙◌, arith}
 use Rattle.std.proofs.lemmas.Bool.Decides.{nat_tests}
-use Rattle.lines.specs.Entries.{all_within}
 use Rattle.lines.proofs.Steps.{all_within_more, all_within_all}
 use Rattle.lines.proofs.entries.all_in_range.Goals as goal
 

@@ -1,4 +1,4 @@
-use Rattle.std.proofs.Common.{Err, ap, ◌∙◌, arith, length-drop, length-take, rules}
+use Rattle.std.proofs.Common.{Err, ap, ◌∙◌, arith, length-drop, length-take}
 use Rattle.lines.proofs.LineLaws.{line_found, line_missing, line_past}
 use Rattle.lines.proofs.lines.line_bytes.Goals as goal
 

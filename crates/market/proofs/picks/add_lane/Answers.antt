@@ -1,9 +1,9 @@
-use Rattle.std.proofs.Common.{◌≡◌, true, false, cond, List, [], ◌∷◌, ◌++◌, map, get_or, take, sym, ap, ◌∙◌, arith}
+use Rattle.std.proofs.Common.{◌≡◌, true, false, [], ◌∷◌, ◌++◌, map, take, sym, ap, ◌∙◌, arith}
 use Rattle.std.proofs.lemmas.List.{get_or-map}
 use Rattle.std.proofs.lemmas.Bool.{cond-true, cond-false}
 use Rattle.bounded.specs.Listed.{listed}
 use Rattle.bounded.proofs.Lengths.{listed_within}
-use Rattle.sheets.specs.Model.{lane_record, teacher_record, LaneRecord}
+use Rattle.sheets.specs.Model.{lane_record, teacher_record}
 use Rattle.market.specs.Passing.{passes, pass_at}
 use Rattle.market.specs.Tables.{person, no_lane}
 use Rattle.bounded.proofs.Fronts.{same_front, push_front}

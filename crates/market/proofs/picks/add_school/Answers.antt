@@ -1,7 +1,6 @@
-use Rattle.std.proofs.Common.{◌≡◌, true, false, map, length, ap, ◌∙◌}
 use Rattle.bounded.specs.Listed.{listed}
-use Rattle.sheets.specs.Model.{lane_record, teacher_record}
-use Rattle.market.specs.Tables.{person, at_school}
+use Rattle.sheets.specs.Model.{teacher_record}
+use Rattle.market.specs.Tables.{person}
 use Rattle.market.proofs.Appending.{at_school_is}
 use Rattle.market.proofs.picks.add_school.Goals as goal
 

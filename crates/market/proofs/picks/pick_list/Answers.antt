@@ -1,7 +1,7 @@
-use Rattle.std.proofs.Common.{◌≡◌, ℕ, List, [], ◌++◌, map, take, sym, ap, ◌∙◌, ap₂, arith}
+use Rattle.std.proofs.Common.{ℕ, List, ◌++◌, take, ◌∙◌, ap₂, arith}
 use Rattle.bounded.specs.Listed.{listed}
 use Rattle.sheets.specs.Held.{model_of}
-use Rattle.sheets.specs.Model.{LaneRecord, lane_record, teacher_record}
+use Rattle.sheets.specs.Model.{LaneRecord, teacher_record}
 use Rattle.market.specs.Lists.{gather}
 use Rattle.market.specs.Tables.{person, at_school, unnamed}
 use Rattle.market.proofs.Appending.{picks_of_newcomer, picks_of_incumbent}

@@ -1,4 +1,4 @@
-use Rattle.std.proofs.Common.{[], ◌∷◌, map, sym, ap, arith}
+use Rattle.std.proofs.Common.{[], ◌∷◌, sym, ap, arith}
 use Rattle.std.proofs.lemmas.List.{length-map}
 use Rattle.text.proofs.PutLaws.{then, put_at}
 use Rattle.lines.specs.declared.keys.Key.TheVariants.{Teachers}

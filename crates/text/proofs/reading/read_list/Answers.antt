@@ -1,4 +1,4 @@
-use Rattle.std.proofs.Common.{length, sym, ap, ◌∙◌, arith}
+use Rattle.std.proofs.Common.{sym, ap, ◌∙◌}
 use Rattle.bounded.specs.Listed.{listed}
 use Rattle.bounded.proofs.Lengths.{listed_within}
 use Rattle.bounded.proofs.Pushes.{was_added, was_full}

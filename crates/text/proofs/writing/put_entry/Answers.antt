@@ -1,4 +1,4 @@
-use Rattle.std.proofs.Common.{ℕ, suc, arith}
+use Rattle.std.proofs.Common.{arith}
 use Rattle.text.proofs.PutLaws.{then, put_at, first_entry, later_entry}
 use Rattle.text.proofs.writing.put_entry.Goals as goal
 

@@ -1,7 +1,7 @@
-use Rattle.std.proofs.Common.{◌≡◌, ◌<◌, Bool, true, false, ◌&&◌, ltb, List, map, length, vec_items, sym, ap, ◌∙◌, arith}
+use Rattle.std.proofs.Common.{◌≡◌, ◌<◌, true, ltb, List, map, length, vec_items, sym, ap, ◌∙◌, arith}
 use Rattle.std.proofs.lemmas.List.{length-map}
 use Rattle.sheets.specs.Held.{model_of}
-use Rattle.sheets.specs.Model.{SheetsModel, TeacherRecord, teacher_record}
+use Rattle.sheets.specs.Model.{TeacherRecord, teacher_record}
 use Rattle.sheets.specs.Ranges.{wish_ok}
 use Rattle.sheets.specs.Tables.{kept}
 use Rattle.sheets.proofs.WishLaws.{then_kept, rewished_yes, rewished_no, no_teacher, no_wish, table_then, wish_few}

@@ -1,4 +1,4 @@
-use Rattle.std.proofs.Common.{◌≡◌, ℕ, ◌+◌, ◌-◌, ◌^◌, min, List, length, vec_items, ap, ◌∙◌, arith}
+use Rattle.std.proofs.Common.{ℕ, ◌+◌, ◌-◌, ◌^◌, min, List, length, ap, ◌∙◌, arith}
 use Rattle.text.proofs.PutLaws.{put_at}
 use Rattle.sheets.specs.declared.records.Lane.{Lane}
 use Rattle.sheets.specs.Held.{model_of}

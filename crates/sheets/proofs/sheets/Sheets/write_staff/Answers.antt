@@ -1,4 +1,4 @@
-use Rattle.std.proofs.Common.{◌≡◌, ℕ, ◌+◌, ◌-◌, ◌^◌, min, List, map, length, ap, ◌∙◌, arith}
+use Rattle.std.proofs.Common.{ℕ, ◌+◌, ◌-◌, ◌^◌, min, List, map, length, ap, ◌∙◌, arith}
 use Rattle.text.proofs.PutLaws.{put_at}
 use Rattle.sheets.specs.declared.records.Teacher.{Teacher}
 use Rattle.sheets.specs.Held.{model_of}
