@@ -1,19 +1,19 @@
 -- Ranks and offers that are read from a book.
-use Rattle.std.proofs.Common.{◌≡◌, ℕ, zero, suc, ◌+◌, ◌*◌, ◌<◌, ◌≤◌, min, Bool, true, false, cond, not, ◌&&◌, eqb, ltb, leb, ◌≢◌, List, [], ◌∷◌, map, length, get_or, take, drop, set, replicate, Some, None, Option, sym, refl, ap, ◌∙◌, ap₂, ⊎_elim, arith, length-set, get_or-set_other, get_or-set_same}
+use Rattle.std.proofs.Common.{◌≡◌, ℕ, ◌+◌, ◌*◌, ◌<◌, ◌≤◌, Bool, true, false, cond, not, ◌&&◌, eqb, ltb, leb, ◌≢◌, List, [], map, length, get_or, drop, set, replicate, Some, None, sym, refl, ap, ◌∙◌, ap₂, ⊎_elim, arith, get_or-set_other, get_or-set_same}
 use lib.ListN.{length-replicate}
 use Rattle.std.proofs.lemmas.List.{get_or_past, get_or-map, get_or-replicate, length-map, at_drop_more, at_drop_all}
-use Rattle.std.proofs.lemmas.Bool.{cases_Bool, cases_lt, cases_eq, lt-ltb, le-ltb, eq-eqb, ne_eqb, cond-true, cond-false}
+use Rattle.std.proofs.lemmas.Bool.{cases_lt, cases_eq, lt-ltb, le-ltb, cond-true, cond-false}
 use Rattle.bounded.specs.Listed.{listed}
 use Rattle.bounded.specs.declared.list.BoundedList.{BoundedList}
 use Rattle.matching.specs.Groups.{told}
-use Rattle.matching.specs.Log.{State, picks}
+use Rattle.matching.specs.Log.{picks}
 use Rattle.matching.specs.Market.{clears, offer}
-use Rattle.matching.specs.Picks.{first, holds}
+use Rattle.matching.specs.Picks.{first}
 use Rattle.market.specs.Lists.{gather}
-use Rattle.market.specs.Tables.{person, stranger, person_at, pick_of, completed, unnamed, wishes_of}
+use Rattle.market.specs.Tables.{person, stranger, person_at, pick_of, completed, wishes_of}
 use Rattle.sheets.specs.Model.{SheetsModel, TeacherRecord}
 use Rattle.sheets.specs.Tables.{nobody}
-use Rattle.book.specs.Model.{Fixed, Model, unwished, fixed_from, tables_in, board_in, anyone, clears_in, offer_in, rank_in, picks_of}
+use Rattle.book.specs.Model.{Model, unwished, fixed_from, tables_in, board_in, anyone, clears_in, offer_in, rank_in, picks_of}
 
 -- ---- ranks
 

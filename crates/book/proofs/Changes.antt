@@ -1,22 +1,22 @@
 -- Changes of a book.
-use Rattle.std.proofs.Common.{◌≡◌, ℕ, zero, suc, ◌+◌, ◌-◌, ◌*◌, ◌<◌, ◌≤◌, min, Bool, true, false, cond, ◌&&◌, ◌||◌, eqb, ltb, leb, ◌≢◌, List, [], ◌∷◌, ◌++◌, map, length, get_or, take, set, replicate, sym, refl, ap, ◌∙◌, ap₂, ⊎_elim, arith, get_or-set_other, get_or-set_same}
+use Rattle.std.proofs.Common.{◌≡◌, ℕ, ◌+◌, ◌<◌, ◌≤◌, Bool, true, false, ◌&&◌, leb, List, [], ◌∷◌, ◌++◌, map, length, get_or, take, replicate, sym, refl, ap, ◌∙◌, ap₂, ⊎_elim, arith}
 use mathlib.Core.Path.{fun_ext}
 use lib.ListN.{length-replicate}
-use Rattle.std.proofs.lemmas.List.{get_or_past, get_or-replicate, get_or-map, length-map, take_all, map_push, map_more}
-use Rattle.std.proofs.lemmas.Bool.{cases_Bool, cases_lt, cases_eq, lt-ltb, le-ltb, eq-eqb, ne_eqb, cond-true, cond-false, and_parts, and_from}
+use Rattle.std.proofs.lemmas.List.{get_or_past, get_or-replicate, take_all, map_push, map_more}
+use Rattle.std.proofs.lemmas.Bool.{cases_lt, and_parts, and_from}
 use Rattle.bounded.specs.Listed.{listed}
 use Rattle.bounded.specs.declared.list.BoundedList.{BoundedList}
 use Rattle.lines.specs.Entries.{within, distinct, further}
-use Rattle.matching.specs.Log.{State, opened}
-use Rattle.market.specs.Tables.{Tables, Person, person, pick_of, wishes_of}
+use Rattle.matching.specs.Log.{opened}
+use Rattle.market.specs.Tables.{Person, person, pick_of, wishes_of}
 use Rattle.market.proofs.Short.{pick_lists_are_short_lem}
 use Rattle.sheets.specs.declared.records.Teacher.{Teacher}
 use Rattle.sheets.specs.Model.{SheetsModel, PostsModel, TeacherRecord, teacher_record}
-use Rattle.sheets.specs.Ranges.{every, few_within, wish_ok, teacher_ok, staff_ok, posts_ok, in_range, is_blank}
+use Rattle.sheets.specs.Ranges.{every, few_within, wish_ok, teacher_ok, staff_ok, posts_ok}
 use Rattle.sheets.specs.Tables.{kept}
 use Rattle.sheets.proofs.ReadLaws.{lanes_few}
 use Rattle.sheets.proofs.WishLaws.{someone}
-use Rattle.book.specs.Model.{Fixed, Model, fixed_from, rank_in, picks_of, lifted, with_cuts}
+use Rattle.book.specs.Model.{Model, fixed_from, picks_of}
 
 -- ---- pick lists
 

@@ -1,14 +1,13 @@
 -- The table of ranks, lane by lane.
-use Rattle.std.proofs.Common.{◌≡◌, ℕ, zero, suc, ◌+◌, ◌-◌, ◌*◌, ◌<◌, ◌≤◌, min, Bool, true, false, cond, ◌&&◌, eqb, ltb, ◌≢◌, List, [], ◌∷◌, map, length, get_or, take, set, replicate, sym, refl, ap, ◌∙◌, ap₂, inl, inr, ⊎_elim, arith, length-take, get_or-set_other, get_or-set_same}
+use Rattle.std.proofs.Common.{◌≡◌, ℕ, ◌+◌, ◌*◌, ◌<◌, ◌≤◌, min, Bool, true, false, cond, ◌&&◌, eqb, ltb, ◌≢◌, List, map, length, get_or, set, replicate, sym, refl, ap, ◌∙◌, ap₂, ⊎_elim, arith, get_or-set_other, get_or-set_same}
 use lib.ListN.{length-replicate}
-use Rattle.std.proofs.lemmas.List.{get_or_past, get_or-map, length-map}
-use Rattle.std.proofs.lemmas.Bool.{cases_Bool, cases_lt, cases_eq, lt-ltb, le-ltb, eq-eqb, ne_eqb, cond-true, cond-false}
-use Rattle.matching.specs.Groups.{told}
+use Rattle.std.proofs.lemmas.List.{get_or_past, get_or-map}
+use Rattle.std.proofs.lemmas.Bool.{cases_lt, cases_eq, lt-ltb, le-ltb, eq-eqb, ne_eqb, cond-true, cond-false}
 use Rattle.matching.specs.Ranking.{people, rank_by, ranked}
-use Rattle.matching.proofs.Ranking.{told_range, behind, behind_high, rank_none, rank_some, set_to_in, set_to_out}
-use Rattle.market.specs.Tables.{Tables, Person, person, band_in, bands_of, lane_at, no_lane, tables_of}
+use Rattle.matching.proofs.Ranking.{behind_high, rank_none, rank_some, set_to_in, set_to_out}
+use Rattle.market.specs.Tables.{Tables, bands_of, no_lane}
 use Rattle.sheets.specs.declared.records.Lane.{Lane}
-use Rattle.sheets.specs.Model.{SheetsModel, LaneRecord, lane_record}
+use Rattle.sheets.specs.Model.{LaneRecord, lane_record}
 use Rattle.book.proofs.Blanks.{zeros}
 
 module _ (ahead : ℕ → ℕ → ℕ → Bool) (lane : ℕ) (bands : List ℕ) (few : length bands ≤ 200) where

@@ -1,12 +1,12 @@
 -- The table of ranks holds the ranks by bands, standing and number.
-use Rattle.std.proofs.Common.{◌≡◌, ℕ, zero, suc, ◌+◌, ◌*◌, ◌<◌, ◌≤◌, min, Bool, true, false, cond, not, ◌&&◌, ◌||◌, eqb, ltb, ◌≢◌, List, [], ◌∷◌, map, length, get_or, sym, refl, ap, ◌∙◌, ap₂, inl, inr, ⊎_elim, arith}
+use Rattle.std.proofs.Common.{◌≡◌, ℕ, ◌+◌, ◌*◌, ◌<◌, ◌≤◌, Bool, true, false, cond, not, ◌&&◌, eqb, ltb, List, length, get_or, sym, refl, ap, ◌∙◌, ap₂, ⊎_elim, arith}
 use mathlib.Core.Path.{fun_ext}
 use Rattle.std.proofs.lemmas.List.{get_or_past, get_or-map, length-map}
-use Rattle.std.proofs.lemmas.Bool.{cases_Bool, cases_lt, lt-ltb, le-ltb, eq-eqb, ne_eqb, cond-true, cond-false, ltb-true, and_parts, both_ways}
+use Rattle.std.proofs.lemmas.Bool.{cases_Bool, cases_lt, lt-ltb, le-ltb, cond-true, cond-false}
 use Rattle.matching.specs.Groups.{told}
-use Rattle.matching.specs.Market.{Market, board_of, rank}
-use Rattle.matching.specs.Ranking.{people, rank_by, stands_before}
-use Rattle.matching.proofs.Ranking.{rank_is, rank_none}
+use Rattle.matching.specs.Market.{rank}
+use Rattle.matching.specs.Ranking.{rank_by}
+use Rattle.matching.proofs.Ranking.{rank_is}
 use Rattle.market.specs.Tables.{Tables, Person, stranger, teaches, band_of, band_in, bands_of, lane_at, person_at, licensed_for, market_of}
 use Rattle.book.specs.Model.{anyone, rank_in, ranks_by}
 use Rattle.book.proofs.RankTable.{RanksTo}

@@ -1,10 +1,10 @@
 -- Who asks for a lane at a cutoff, by how far each teacher reaches.
-use Rattle.std.proofs.Common.{◌≡◌, ℕ, zero, suc, ◌+◌, ◌<◌, ◌≤◌, Bool, true, false, cond, ◌&&◌, ◌||◌, eqb, ltb, leb, ◌≢◌, List, [], ◌∷◌, ◌++◌, length, get_or, take, set, Some, None, vec_items, Option, sym, refl, ap, ◌∙◌, ap₂, inl, inr, ⊎_elim, arith}
+use Rattle.std.proofs.Common.{◌≡◌, ℕ, ◌+◌, ◌<◌, ◌≤◌, Bool, true, false, cond, ◌&&◌, ◌||◌, eqb, ltb, leb, ◌≢◌, List, [], ◌∷◌, ◌++◌, length, get_or, take, set, Some, vec_items, sym, refl, ap, ◌∙◌, ap₂, inl, inr, ⊎_elim}
 use mathlib.Core.Path.{fun_ext}
-use Rattle.std.proofs.lemmas.List.{take_more_set, take_all}
+use Rattle.std.proofs.lemmas.List.{take_more_set}
 use Rattle.std.proofs.lemmas.Bool.{cases_Bool, cases_eq, both_ways, eq-eqb, ne_eqb, eqb-true, cond-true, cond-false}
 use Rattle.matching.specs.Count.{bit}
-use Rattle.matching.specs.Log.{picks, put}
+use Rattle.matching.specs.Log.{picks}
 use Rattle.matching.specs.Market.{clears, offer}
 use Rattle.matching.specs.Picks.{first, holds}
 use Rattle.matching.proofs.Lists.{holds_true, first_on}

@@ -1,9 +1,7 @@
 -- The sheets of a round are those that its book keeps.
-use Rattle.std.proofs.Common.{◌≡◌, ℕ, suc, List, [], ◌∷◌, map, get_or, sym, refl, ap, ◌∙◌}
-use Rattle.market.specs.Tables.{wishes_of}
+use Rattle.std.proofs.Common.{◌≡◌, List, [], ◌∷◌, map, get_or, refl, ap}
 use Rattle.sheets.specs.Held.{model_of}
-use Rattle.sheets.specs.Model.{SheetsModel, TeacherRecord}
-use Rattle.sheets.specs.Tables.{with_wish}
+use Rattle.sheets.specs.Model.{TeacherRecord}
 use Rattle.book.specs.declared.book.Book.{Book}
 use Rattle.book.specs.Held.{book_model}
 use Rattle.book.specs.Model.{unwished}

@@ -1,12 +1,12 @@
 -- A trial puts a cutoff and takes it back: what it answers and leaves.
-use Rattle.std.proofs.Common.{◌≡◌, ℕ, suc, ◌<◌, ◌≤◌, Bool, true, false, cond, eqb, ltb, List, length, get_or, set, Ok, Err, vec_items, Result, sym, refl, ap, ◌∙◌, ap₂, arith}
+use Rattle.std.proofs.Common.{◌≡◌, ℕ, suc, ◌<◌, ◌≤◌, true, false, List, length, get_or, set, Ok, Err, vec_items, Result, sym, ap, ◌∙◌, ap₂, arith}
 use Rattle.std.proofs.lemmas.List.{set-set, set-get_or}
 use Rattle.std.proofs.lemmas.Bool.{lt-ltb, le-ltb, eq-eqb, ne_eqb, cond-true, cond-false}
 use Rattle.matching.specs.Log.{within}
 use Rattle.book.specs.declared.book.Book.{Book}
 use Rattle.book.specs.declared.book.trial.TrialRefusal.{TrialRefusal}
 use Rattle.book.specs.declared.book.trial.TrialRefusal.TheVariants.{NoLane, BadCutoff, BadRow}
-use Rattle.book.specs.Askers.{asker_bytes, licensed_in, row_due, asking, tried, trying, trial_left}
+use Rattle.book.specs.Askers.{asker_bytes, licensed_in, asking, tried, trying, trial_left}
 use Rattle.book.specs.Held.{book_model, fixed_of, state_of}
 use Rattle.book.specs.Model.{Model}
 

@@ -1,5 +1,5 @@
 -- What a book holds. Assumes nothing.
-use Rattle.std.specs.Prelude.{ℕ, List, length, vec_items, slice_index_or}
+use Rattle.std.specs.Prelude.{length, vec_items, slice_index_or}
 use Rattle.matching.specs.Log.{State}
 use Rattle.market.specs.Tables.{wishes_of}
 use Rattle.sheets.specs.Held.{model_of}

@@ -1,4 +1,4 @@
-use Rattle.std.proofs.Common.{◌≡◌, ℕ, leb, sym, ◌∙◌, ap₂, arith}
+use Rattle.std.proofs.Common.{ℕ, leb, ◌∙◌, ap₂, arith}
 use Rattle.book.specs.Held.{book_model}
 use Rattle.book.proofs.Asking.{clears_no, clears_yes}
 use Rattle.book.proofs.book.Book.clears.Goals as goal

@@ -1,4 +1,4 @@
-use Rattle.std.proofs.Common.{◌≡◌, ℕ, ◌+◌, Bool, ltb, sym, refl, ap, ◌∙◌, arith}
+use Rattle.std.proofs.Common.{◌≡◌, ℕ, Bool, ltb, refl, ap, ◌∙◌, arith}
 use Rattle.std.proofs.lemmas.Bool.{lt-ltb, le-ltb}
 use Rattle.matching.specs.Count.{count, sum_to}
 use Rattle.matching.proofs.Ranking.{count_yes, count_no}
@@ -10,8 +10,8 @@ pub loop-t-init : goal.loop-t-init
 unfolding sum_to
 loop-t-init c = (refl, omega arith)
 
-pub overflow-add-count : goal.overflow-add-count
-overflow-add-count c = omega (arith, c.loop-t.invariant.1, c.teacher-count-t-end.ensures.few)
+pub overflow_add-count : goal.overflow_add-count
+overflow_add-count c = omega (arith, c.loop-t.invariant.1, c.teacher_count-t-end.ensures.few)
 
 pub loop-t-preserved : goal.loop-t-preserved
 loop-t-preserved c =
@@ -25,8 +25,8 @@ loop-t-preserved c =
 
 pub returns : goal.returns
 returns c =
-    let e : c.loop-t.t ≡ c.teacher-count-t-end.result = omega arith in
+    let e : c.loop-t.t ≡ c.teacher_count-t-end.result = omega arith in
     record {
-      value = c.loop-t.invariant.0 ∙ ap (count (λ t. ltb 0 ((book_model c.args.self.now).0.ranks c.args.l t))) (e ∙ c.teacher-count-t-end.ensures.value);
-      few = omega (arith, c.loop-t.invariant.1, c.teacher-count-t-end.ensures.few);
+      value = c.loop-t.invariant.0 ∙ ap (count (λ t. ltb 0 ((book_model c.args.self.now).0.ranks c.args.l t))) (e ∙ c.teacher_count-t-end.ensures.value);
+      few = omega (arith, c.loop-t.invariant.1, c.teacher_count-t-end.ensures.few);
     }

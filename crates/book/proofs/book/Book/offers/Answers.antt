@@ -1,4 +1,4 @@
-use Rattle.std.proofs.Common.{◌≡◌, length, None, sym, refl, ap, ◌∙◌, arith}
+use Rattle.std.proofs.Common.{None, sym, refl, arith}
 use Rattle.std.proofs.lemmas.List.{length-map}
 use Rattle.sheets.specs.Held.{model_of}
 use Rattle.book.specs.Held.{book_model, fixed_of, state_of}
@@ -15,5 +15,5 @@ returns c =
     record {
       long = c.loop-t.invariant.0;
       each = each_all (offer_in (book_model b)) None c.loop-t.offers c.loop-t.t
-          (λ t h. sym (no_offer (model_of b.sheets) (fixed_of b).ranks (state_of b).cuts b.posted t (omega (arith, c.teacher-count-t-end.ensures.value, length-map (model_of b.sheets).teachers unwished)))) c.loop-t.invariant.1;
+          (λ t h. sym (no_offer (model_of b.sheets) (fixed_of b).ranks (state_of b).cuts b.posted t (omega (arith, c.teacher_count-t-end.ensures.value, length-map (model_of b.sheets).teachers unwished)))) c.loop-t.invariant.1;
     }

@@ -4,7 +4,7 @@ use Rattle.matching.specs.Log.{opened}
 use Rattle.market.specs.Tables.{person, tables_of, wishes_of}
 use Rattle.sheets.specs.Held.{model_of}
 use Rattle.sheets.specs.Model.{teacher_record}
-use Rattle.book.specs.Model.{Model, fixed_from}
+use Rattle.book.specs.Model.{fixed_from}
 use Rattle.book.proofs.RanksAre.{ranks_are}
 use Rattle.book.proofs.book.Book.open.Goals as goal
 
@@ -14,6 +14,6 @@ returns g c =
     let n : length m.teachers ≡ length (tables_of m).people = sym (length-map m.teachers person) in
     let few : length (tables_of m).people ≤ 200 = omega (arith, n, length-map (vec_items c.args.desk.now.teachers) teacher_record, c.args.desk.now.few.1, c.args.desk.now.teachers.ok.0) in
     record {
-      book = c.take-over.ensures.book ∙ ap (λ (r : ℕ → ℕ → ℕ). (fixed_from m r, opened (wishes_of m))) (ranks_are (g.S.Standing.ahead c.args.standing.now) (tables_of m) (length m.teachers) (vec_items c.rank-all.new.ranks.table) few n c.rank-all.ensures);
-      desk = c.take-over.ensures.desk;
+      book = c.take_over.ensures.book ∙ ap (λ (r : ℕ → ℕ → ℕ). (fixed_from m r, opened (wishes_of m))) (ranks_are (g.S.Standing.ahead c.args.standing.now) (tables_of m) (length m.teachers) (vec_items c.rank_all.new.ranks.table) few n c.rank_all.ensures);
+      desk = c.take_over.ensures.desk;
     }

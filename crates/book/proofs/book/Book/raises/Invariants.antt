@@ -1,4 +1,4 @@
-use Rattle.std.proofs.Common.{◌≡◌, ℕ, ◌-◌, ◌*◌, ◌≤◌}
+use Rattle.std.proofs.Common.{◌≡◌, ◌-◌, ◌*◌, ◌≤◌}
 use Rattle.matching.specs.Count.{sum_to}
 use Rattle.book.specs.Held.{state_of}
 use Rattle.book.proofs.book.Book.raises.Given as goal

@@ -1,4 +1,4 @@
-use Rattle.std.proofs.Common.{◌≡◌, refl, ◌∙◌, arith}
+use Rattle.std.proofs.Common.{refl, ◌∙◌, arith}
 use Rattle.std.proofs.lemmas.List.{length-map, length-set}
 use Rattle.sheets.specs.Held.{model_of}
 use Rattle.book.specs.Held.{book_model}
@@ -14,7 +14,7 @@ loop-t-init c = (refl, each_none (reach_in (book_model c.args.self.now) c.args.l
 pub loop-t-preserved : goal.loop-t-preserved
 loop-t-preserved c = (
   length-set c.loop-t.reaches c.loop-t.t c.reach.result ∙ c.loop-t.invariant.0,
-  each_more (reach_in (book_model c.args.self.now) c.args.l) 0 c.loop-t.reaches c.loop-t.t c.reach.result (omega (arith, c.loop-t.invariant.0, c.teacher-count-t-end.ensures.few)) c.reach.ensures c.loop-t.invariant.1,
+  each_more (reach_in (book_model c.args.self.now) c.args.l) 0 c.loop-t.reaches c.loop-t.t c.reach.result (omega (arith, c.loop-t.invariant.0, c.teacher_count-t-end.ensures.few)) c.reach.ensures c.loop-t.invariant.1,
 )
 
 pub returns : goal.returns
@@ -23,5 +23,5 @@ returns c =
     record {
       long = c.loop-t.invariant.0;
       each = each_all (reach_in (book_model b) c.args.l) 0 c.loop-t.reaches c.loop-t.t
-          (λ t h. reach_past b c.args.l t (omega (arith, c.teacher-count-t-end.ensures.value, length-map (model_of b.sheets).teachers unwished))) c.loop-t.invariant.1;
+          (λ t h. reach_past b c.args.l t (omega (arith, c.teacher_count-t-end.ensures.value, length-map (model_of b.sheets).teachers unwished))) c.loop-t.invariant.1;
     }

@@ -1,18 +1,23 @@
-use Rattle.std.proofs.Common.{◌≡◌, ℕ, ◌≤◌, map, length, get_or, vec_items, sym, ap, ◌∙◌, arith}
+use Rattle.std.proofs.Common.{ℕ, ◌≤◌, length, get_or, vec_items, sym, ap, ◌∙◌, arith}
 use lib.ListN.{length-replicate}
 use Rattle.std.proofs.lemmas.List.{length-map}
 use Rattle.sheets.specs.Held.{model_of}
 use Rattle.sheets.specs.Model.{SheetsModel, lane_record}
 use Rattle.book.specs.Model.{picks_of}
 use Rattle.book.proofs.Changes.{ones}
-use Rattle.book.proofs.Wishing.{test, after, said_yes, said_no, wished_yes, wished_no, picks_long, after_in, picks_after, teacher_in}
+use Rattle.book.proofs.Wishing.{said_yes, said_no, wished_yes, wished_no, picks_long, after_in, picks_after, teacher_in}
 use Rattle.book.proofs.book.Book.rewish.Goals as goal
 
 pub invariant_of-self : goal.invariant_of-self
 invariant_of-self c =
     let m = model_of c.args.self.now.sheets in
     let s = said_no m c.args.t c.args.wishes.now (model_of c.rewish.new.self) c.if-not-rewish.ensures in
-    (c.args.self.now.room, (c.args.self.now.sized ∙ ap (λ (x : SheetsModel). length x.posts.lanes) (sym s.1), (c.args.self.now.low, (c.args.self.now.picked ∙ ap picks_of (sym s.1), tt))))
+    record {
+      room = c.args.self.now.room;
+      sized = c.args.self.now.sized ∙ ap (λ (x : SheetsModel). length x.posts.lanes) (sym s.1);
+      low = c.args.self.now.low;
+      picked = c.args.self.now.picked ∙ ap picks_of (sym s.1);
+    }
 
 pub returns-then-not-rewish : goal.returns-then-not-rewish
 returns-then-not-rewish c =
@@ -29,8 +34,8 @@ bounds-teachers-t c =
     let few : length m.posts.lanes ≤ 80 = omega (arith, length-map (vec_items b.sheets.lanes) lane_record, b.sheets.few.0, b.sheets.lanes.ok.0) in
     after_in m c.args.t c.args.wishes.now s.0 few (vec_items b.picks) b.picked n s.1 c.teachers.result.now c.teachers.ensures.value
 
-pub index-mut-requires : goal.index-mut-requires
-index-mut-requires c =
+pub index_mut-requires : goal.index_mut-requires
+index_mut-requires c =
     let b = c.args.self.now in
     let m = model_of b.sheets in
     let s = said_yes m c.args.t c.args.wishes.now (model_of c.rewish.new.self) c.if-not-rewish.ensures in
@@ -43,13 +48,13 @@ invariant_of-self-2 c =
     let m = model_of b.sheets in
     let n = model_of c.rewish.new.self in
     let s = said_yes m c.args.t c.args.wishes.now n c.if-not-rewish.ensures in
-    let few : length m.posts.lanes ≤ 80 = omega (arith, length-map (vec_items b.sheets.lanes) lane_record, b.sheets.few.0, b.sheets.lanes.ok.0) in (
-      (b.room.0, omega arith),
-      (
-        omega (arith, c.fill-ones.new.cutoffs.ok.0, ap length c.fill-ones.ensures.value, length-replicate {A = ℕ} (length c.lanes.result.now) 1, length-map c.lanes.result.now lane_record, ap length c.lanes.ensures.value),
-        (λ l. omega (arith, ap (λ (f : ℕ → ℕ). f l) (ones (length c.lanes.result.now) (vec_items c.fill-ones.new.cutoffs) c.fill-ones.ensures.value)), (picks_after m c.args.t c.args.wishes.now s.0 few (vec_items b.picks) b.picked n s.1 c.teachers.result.now c.teachers.ensures.value c.pick-list-list.result c.index-teachers-t.result c.index-teachers-t.is c.pick-list-list.ensures, tt)),
-      ),
-    )
+    let few : length m.posts.lanes ≤ 80 = omega (arith, length-map (vec_items b.sheets.lanes) lane_record, b.sheets.few.0, b.sheets.lanes.ok.0) in
+    record {
+      room = (b.room.0, omega arith);
+      sized = omega (arith, c.fill_ones.new.cutoffs.ok.0, ap length c.fill_ones.ensures.value, length-replicate {A = ℕ} (length c.lanes.result.now) 1, length-map c.lanes.result.now lane_record, ap length c.lanes.ensures.value);
+      low = λ l. omega (arith, ap (λ (f : ℕ → ℕ). f l) (ones (length c.lanes.result.now) (vec_items c.fill_ones.new.cutoffs) c.fill_ones.ensures.value));
+      picked = picks_after m c.args.t c.args.wishes.now s.0 few (vec_items b.picks) b.picked n s.1 c.teachers.result.now c.teachers.ensures.value c.pick_list-list.result c.index-teachers-t.result c.index-teachers-t.is c.pick_list-list.ensures;
+    }
 
 pub returns : goal.returns
 returns c =
@@ -57,4 +62,4 @@ returns c =
     let m = model_of b.sheets in
     let n = model_of c.rewish.new.self in
     let s = said_yes m c.args.t c.args.wishes.now n c.if-not-rewish.ensures in
-    wished_yes m c.args.t c.args.wishes.now (vec_items b.ranks.table) (λ l. get_or (vec_items b.cutoffs) l 1) b.posted s.0 n s.1 (λ l. get_or (vec_items c.fill-ones.new.cutoffs) l 1) (ones (length c.lanes.result.now) (vec_items c.fill-ones.new.cutoffs) c.fill-ones.ensures.value)
+    wished_yes m c.args.t c.args.wishes.now (vec_items b.ranks.table) (λ l. get_or (vec_items b.cutoffs) l 1) b.posted s.0 n s.1 (λ l. get_or (vec_items c.fill_ones.new.cutoffs) l 1) (ones (length c.lanes.result.now) (vec_items c.fill_ones.new.cutoffs) c.fill_ones.ensures.value)

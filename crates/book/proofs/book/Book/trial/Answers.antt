@@ -1,4 +1,4 @@
-use Rattle.std.proofs.Common.{◌≡◌, ℕ, suc, ◌<◌, true, false, List, length, get_or, vec_items, sym, refl, ap, ◌∙◌, arith}
+use Rattle.std.proofs.Common.{◌≡◌, ℕ, suc, ◌<◌, List, length, vec_items, sym, refl, ap, ◌∙◌, arith}
 use Rattle.std.proofs.lemmas.List.{get_or-set_same}
 use Rattle.matching.specs.Log.{within}
 use Rattle.book.specs.Held.{book_model}
@@ -16,24 +16,34 @@ invariant_of-self c =
     let b = c.args.self.now in
     let v = c.drop-guard.new.self.0 in
     let e : vec_items v ≡ vec_items b.cutoffs = c.drop-guard.ensures.value ∙ restored (vec_items b.cutoffs) c.args.l c.args.tried c.index-old.result.now c.index-old.ensures in
-    ((b.room.0, omega (arith, c.drop-guard.ensures.capacity, b.room.1)), (omega (arith, v.ok.0, ap length e, b.sized, b.cutoffs.ok.0), (low_back b (vec_items v) e, (b.picked, tt))))
+    record {
+      room = (b.room.0, omega (arith, c.drop-guard.ensures.capacity, b.room.1));
+      sized = omega (arith, v.ok.0, ap length e, b.sized, b.cutoffs.ok.0);
+      low = low_back b (vec_items v) e;
+      picked = b.picked;
+    }
 
-pub returns-then-not-may-try : goal.returns-then-not-may-try
-returns-then-not-may-try c =
+pub returns-then-not-may_try : goal.returns-then-not-may_try
+returns-then-not-may_try c =
     let b = c.args.self.now in
     let m = book_model b in
     let v = c.drop-guard.new.self.0 in
     let e : vec_items v ≡ vec_items b.cutoffs = c.drop-guard.ensures.value ∙ restored (vec_items b.cutoffs) c.args.l c.args.tried c.index-old.result.now c.index-old.ensures in
     let bytes : List ℕ = c.args.row.now in
     let inside : c.args.l < length m.0.posts.lanes = omega (arith, c.len.ensures, b.sized) in
-    left_back b (vec_items v) e c.args.l c.args.tried bytes _ (trying_cutoff m c.args.l c.args.tried bytes inside (ap (λ n. within c.args.tried (suc n)) (sym c.licensed-licensed.ensures.value) ∙ sym c.if-not-may-try.ensures))
+    left_back b (vec_items v) e c.args.l c.args.tried bytes _ (trying_cutoff m c.args.l c.args.tried bytes inside (ap (λ n. within c.args.tried (suc n)) (sym c.licensed-licensed.ensures.value) ∙ sym c.if-not-may_try.ensures))
 
 pub invariant_of-self-then-row-teachers : goal.invariant_of-self-then-row-teachers
 invariant_of-self-then-row-teachers c =
     let b = c.args.self.now in
     let v = c.drop-guard-then-row-teachers.new.self.0 in
     let e : vec_items v ≡ vec_items b.cutoffs = c.drop-guard-then-row-teachers.ensures.value ∙ restored (vec_items b.cutoffs) c.args.l c.args.tried c.index-old.result.now c.index-old.ensures in
-    ((b.room.0, omega (arith, c.drop-guard-then-row-teachers.ensures.capacity, b.room.1)), (omega (arith, v.ok.0, ap length e, b.sized, b.cutoffs.ok.0), (low_back b (vec_items v) e, (b.picked, tt))))
+    record {
+      room = (b.room.0, omega (arith, c.drop-guard-then-row-teachers.ensures.capacity, b.room.1));
+      sized = omega (arith, v.ok.0, ap length e, b.sized, b.cutoffs.ok.0);
+      low = low_back b (vec_items v) e;
+      picked = b.picked;
+    }
 
 pub returns-then-row-teachers : goal.returns-then-row-teachers
 returns-then-row-teachers c =
@@ -43,14 +53,19 @@ returns-then-row-teachers c =
     let e : vec_items v ≡ vec_items b.cutoffs = c.drop-guard-then-row-teachers.ensures.value ∙ restored (vec_items b.cutoffs) c.args.l c.args.tried c.index-old.result.now c.index-old.ensures in
     let bytes : List ℕ = c.args.row.now in
     let inside : c.args.l < length m.0.posts.lanes = omega (arith, c.len.ensures, b.sized) in
-    left_back b (vec_items v) e c.args.l c.args.tried bytes _ (trying_row m c.args.l c.args.tried bytes inside (ap (λ n. within c.args.tried (suc n)) (sym c.licensed-licensed.ensures.value) ∙ sym c.if-not-may-try.ensures) (λ q. c.if-row-teachers.true (q ∙ sym c.teacher-count-teachers.ensures.value)))
+    left_back b (vec_items v) e c.args.l c.args.tried bytes _ (trying_row m c.args.l c.args.tried bytes inside (ap (λ n. within c.args.tried (suc n)) (sym c.licensed-licensed.ensures.value) ∙ sym c.if-not-may_try.ensures) (λ q. c.if-row-teachers.true (q ∙ sym c.teacher_count-teachers.ensures.value)))
 
 pub invariant_of-self-2 : goal.invariant_of-self-2
 invariant_of-self-2 c =
     let b = c.args.self.now in
     let v = c.drop-guard-2.new.self.0 in
     let e : vec_items v ≡ vec_items b.cutoffs = c.drop-guard-2.ensures.value ∙ restored (vec_items b.cutoffs) c.args.l c.args.tried c.index-old.result.now c.index-old.ensures in
-    ((b.room.0, omega (arith, c.drop-guard-2.ensures.capacity, b.room.1)), (omega (arith, v.ok.0, ap length e, b.sized, b.cutoffs.ok.0), (low_back b (vec_items v) e, (b.picked, tt))))
+    record {
+      room = (b.room.0, omega (arith, c.drop-guard-2.ensures.capacity, b.room.1));
+      sized = omega (arith, v.ok.0, ap length e, b.sized, b.cutoffs.ok.0);
+      low = low_back b (vec_items v) e;
+      picked = b.picked;
+    }
 
 pub returns : goal.returns
 returns c =
@@ -60,7 +75,7 @@ returns c =
     let e : vec_items v ≡ vec_items b.cutoffs = c.drop-guard-2.ensures.value ∙ restored (vec_items b.cutoffs) c.args.l c.args.tried c.index-old.result.now c.index-old.ensures in
     let bytes : List ℕ = c.args.row.now in
     let inside : c.args.l < length m.0.posts.lanes = omega (arith, c.len.ensures, b.sized) in
-    let n : length bytes ≡ length m.0.staff = c.if-row-teachers.false ∙ c.teacher-count-teachers.ensures.value in
+    let n : length bytes ≡ length m.0.staff = c.if-row-teachers.false ∙ c.teacher_count-teachers.ensures.value in
     let d : c.cutoff.result ≡ c.args.tried = c.cutoff.ensures ∙ get_or-set_same (vec_items b.cutoffs) c.args.l c.args.tried 0 (omega (arith, c.len.ensures, b.cutoffs.ok.0)) in
-    left_back b (vec_items v) e c.args.l c.args.tried bytes _ (trying_ok m c.args.l c.args.tried bytes c.write-marks.new.row inside (ap (λ n. within c.args.tried (suc n)) (sym c.licensed-licensed.ensures.value) ∙ sym c.if-not-may-try.ensures) n
-    (c.write-marks.ensures ∙ marks_tried m c.args.l c.args.tried c.cutoff.result (length bytes) c.reaches-reaches.result c.reaches-reaches.ensures.each n d))
+    left_back b (vec_items v) e c.args.l c.args.tried bytes _ (trying_ok m c.args.l c.args.tried bytes c.write_marks.new.row inside (ap (λ n. within c.args.tried (suc n)) (sym c.licensed-licensed.ensures.value) ∙ sym c.if-not-may_try.ensures) n
+    (c.write_marks.ensures ∙ marks_tried m c.args.l c.args.tried c.cutoff.result (length bytes) c.reaches-reaches.result c.reaches-reaches.ensures.each n d))

@@ -6,4 +6,4 @@ use Rattle.book.proofs.Rewriting.{sheets_kept}
 use Rattle.book.proofs.book.Book.write_posts.Goals as goal
 
 pub returns : goal.returns
-returns c = c.write-posts.ensures ∙ sym (ap (λ (m : SheetsModel). writing (posts_sheet m) c.args.buf.now) (sheets_kept c.args.self.now))
+returns c = c.write_posts.ensures ∙ sym (ap (λ (m : SheetsModel). writing (posts_sheet m) c.args.buf.now) (sheets_kept c.args.self.now))

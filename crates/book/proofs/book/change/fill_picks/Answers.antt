@@ -1,4 +1,4 @@
-use Rattle.std.proofs.Common.{◌≡◌, ℕ, List, map, length, get_or, take, vec_items, sym, ap, ◌∙◌, ap₂, arith}
+use Rattle.std.proofs.Common.{ℕ, List, map, take, vec_items, sym, ap, ◌∙◌, arith}
 use Rattle.std.proofs.lemmas.List.{take_all}
 use Rattle.bounded.specs.Listed.{listed}
 use Rattle.market.specs.Tables.{person, pick_of}
@@ -13,7 +13,7 @@ loop-t-preserved c =
     let m = model_of c.args.sheets.now in
     let ts = c.teachers-teachers.result.now in
     let f : Teacher → List ℕ = λ x. take 80 (pick_of m.posts (person (teacher_record x)) (listed x.wish)) in
-    (picks_more f ts c.loop-t.t c.index-teachers-t.result (omega arith) (vec_items c.loop-t.picks) (vec_items c.push-reserved.new.self) c.pick-list-list.result c.loop-t.invariant.0 c.push-reserved.ensures.items (c.pick-list-list.ensures ∙ ap (λ w. take 80 (pick_of m.posts (person (teacher_record c.index-teachers-t.result)) w)) c.as-slice.ensures.value ∙ ap f c.index-teachers-t.is), omega arith, omega arith)
+    (picks_more f ts c.loop-t.t c.index-teachers-t.result (omega arith) (vec_items c.loop-t.picks) (vec_items c.push_reserved.new.self) c.pick_list-list.result c.loop-t.invariant.0 c.push_reserved.ensures.items (c.pick_list-list.ensures ∙ ap (λ w. take 80 (pick_of m.posts (person (teacher_record c.index-teachers-t.result)) w)) c.as_slice.ensures.value ∙ ap f c.index-teachers-t.is), omega arith, omega arith)
 
 pub returns : goal.returns
 returns c =

@@ -3,4 +3,4 @@ use Rattle.text.proofs.PutLaws.{then}
 use Rattle.book.proofs.book.result.put_result_line.Goals as goal
 
 pub returns : goal.returns
-returns c = then (omega arith) c.put-end.ensures (then (omega arith) c.put-list-end.ensures c.put.ensures)
+returns c = then (omega arith) c.put-end.ensures (then (omega arith) c.put_list-end.ensures c.put.ensures)

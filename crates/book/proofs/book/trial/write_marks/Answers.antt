@@ -1,4 +1,4 @@
-use Rattle.std.proofs.Common.{◌≡◌, ℕ, length, get_or, take, sym, ap, ◌∙◌, arith}
+use Rattle.std.proofs.Common.{◌≡◌, length, get_or, sym, ap, ◌∙◌, arith}
 use Rattle.std.proofs.lemmas.List.{take_all}
 use Rattle.matching.specs.Count.{bit}
 use Rattle.book.specs.Reach.{reaches}
@@ -12,7 +12,7 @@ loop-t-init c = row_none (λ t. bit (reaches c.args.cutoff (get_or c.args.reache
 
 pub loop-t-preserved : goal.loop-t-preserved
 loop-t-preserved c =
-    mark_more (λ t. bit (reaches c.args.cutoff (get_or c.args.reaches.now t 0))) c.loop-t.row c.loop-t.t c.mark-at.result (omega arith) c.mark-at.ensures c.loop-t.invariant
+    mark_more (λ t. bit (reaches c.args.cutoff (get_or c.args.reaches.now t 0))) c.loop-t.row c.loop-t.t c.mark_at.result (omega arith) c.mark_at.ensures c.loop-t.invariant
 
 pub returns : goal.returns
 returns c =

@@ -1,4 +1,4 @@
-use Rattle.std.proofs.Common.{◌≡◌, vec_items}
+use Rattle.std.proofs.Common.{vec_items}
 use Rattle.book.proofs.RankTable.{SetTo}
 use Rattle.book.proofs.ranks.Ranks.set_lane.Given as goal
 
