@@ -1,20 +1,20 @@
 -- What each call answers and leaves, case by case.
-use Rattle.std.proofs.Common.{◌≡◌, ℕ, zero, suc, ◌+◌, ◌-◌, ◌<◌, ◌≤◌, Bool, true, false, cond, not, ◌&&◌, ◌||◌, ltb, leb, ◌≢◌, ◌⊎◌, List, [], ◌∷◌, map, length, is_some, Some, None, Ok, Err, Option, Result, sym, refl, ap, ◌∙◌, ap₂, inl, inr, add-zero, add-one, one-add, arith}
+use Rattle.std.proofs.Common.{◌≡◌, ℕ, zero, suc, ◌+◌, ◌-◌, ◌<◌, ◌≤◌, Bool, true, false, cond, not, ◌&&◌, ltb, leb, ◌≢◌, ◌⊎◌, List, map, length, is_some, Some, None, Ok, Err, Option, Result, sym, refl, ap, ◌∙◌, ap₂, inl, inr, add-zero, one-add, arith}
 use mathlib.Core.Path.{fun_ext}
 use Rattle.std.proofs.lemmas.List.{length-map}
 use Rattle.std.proofs.lemmas.Bool.{cond-true, cond-false, and_left, and_right, and_from, not_from_true, not_from_false, ltb-true, leb-true, and_parts, cases_eq, cases_lt, cases_Bool, both_ways, lt-ltb, le-ltb, eq-eqb, ne_eqb}
 use Rattle.matching.specs.Count.{count, sum_to}
 use Rattle.matching.specs.Groups.{Group}
-use Rattle.matching.specs.Log.{State, Call, wish, press, sweep, settle, post, picks, within, accepted, done, after, pressed, on_some, settled, presses, raise, put}
+use Rattle.matching.specs.Log.{State, wish, press, sweep, settle, post, picks, within, pressed, on_some, settled, presses, raise, put}
 use Rattle.matching.specs.Market.{Board}
 use Rattle.matching.proofs.Wished.{after_yes, after_no}
 use Rattle.market.specs.Tables.{person}
 use Rattle.sheets.specs.Ranges.{wish_ok}
-use Rattle.book.specs.Model.{Fixed, Model, board_in, with_cuts, wished}
+use Rattle.book.specs.Model.{Model, board_in, with_cuts, wished}
 use Rattle.round.specs.declared.answers.Refusal.{Refusal}
 use Rattle.round.specs.declared.answers.Refusal.TheVariants.{Posted, NoTeacher, BadWishes, NoLane, NotOverAsked, OverAsked}
 use Rattle.round.specs.declared.answers.Settled.{Settled}
-use Rattle.round.specs.Calls.{over_in, next_in, any_over, left, wish_call, press_call, sweep_call, settled_in, presses_in, settle_call, post_call}
+use Rattle.round.specs.Calls.{over_in, next_in, any_over, wish_call, press_call, sweep_call, settled_in, presses_in, settle_call, post_call}
 use Rattle.round.specs.Held.{PlaceModel, on_place}
 use Rattle.round.specs.Loops.{settle_out, more_presses, up_to, swept_to}
 use Rattle.round.proofs.Over.{bumped, over_inside}

@@ -1,31 +1,30 @@
 -- A log, call by call, and what holds at each of its lines.
-use Rattle.std.proofs.Common.{◌≡◌, ℕ, zero, suc, ◌+◌, ◌<◌, ◌≤◌, Bool, true, false, cond, ◌||◌, ◌≢◌, List, [], ◌∷◌, ◌++◌, map, length, get_or, take, set, Ok, Err, Result, sym, refl, ap, ◌∙◌, subst, ap₂, ⊎_elim, arith, get_or-set_other, get_or-set_same}
+use Rattle.std.proofs.Common.{◌≡◌, ℕ, ◌+◌, ◌<◌, Bool, true, cond, ◌≢◌, List, [], length, get_or, take, set, Ok, Err, Result, sym, refl, ap, ◌∙◌, ap₂, ⊎_elim, arith, get_or-set_other, get_or-set_same}
 use mathlib.Core.Path.{fun_ext}
-use Rattle.std.proofs.lemmas.List.{take_more, take_all, get_or-map, length-map, map-set, set-get_or}
+use Rattle.std.proofs.lemmas.List.{take_more, get_or-map, length-map, map-set, set-get_or}
 use Rattle.std.proofs.lemmas.Bool.{cases_eq}
 use Rattle.lines.specs.declared.faults.Fault.{Fault}
-use Rattle.matching.specs.Groups.{Group, nobody, Part}
-use Rattle.matching.specs.Log.{State, Call, post, opened, after, line}
+use Rattle.matching.specs.Groups.{Group}
+use Rattle.matching.specs.Log.{State, Call, post, opened, line}
 use Rattle.matching.specs.Market.{Board, board_of, rank}
 use Rattle.matching.specs.Promise.{Promise}
 use Rattle.matching.proofs.Lines.{every_line_keeps_the_promise_lem}
 use Rattle.matching.proofs.Wished.{line_push}
-use Rattle.market.specs.Described.{Policies, Lawful}
-use Rattle.market.specs.Tables.{Tables, Person, person, stranger, person_at, pick_of, licensed_for, tables_of, wishes_of, market_of}
+use Rattle.market.specs.Described.{Policies}
+use Rattle.market.specs.Tables.{Person, stranger, pick_of, licensed_for, tables_of, wishes_of, market_of}
 use Rattle.market.proofs.Lawful.{sheets_describe_a_lawful_market_lem}
-use Rattle.sheets.specs.Described.{Describes, Undescribed}
-use Rattle.sheets.specs.Model.{SheetsModel, TeacherRecord}
+use Rattle.sheets.specs.Model.{SheetsModel}
 use Rattle.sheets.specs.Ranges.{in_range, wish_ok}
 use Rattle.sheets.specs.Read.{sheets_of}
 use Rattle.sheets.proofs.Canonical.{canonical}
-use Rattle.book.specs.Model.{Fixed, Model, unwished, anyone, board_in, tables_in, fixed_from, ranks_by, opening}
+use Rattle.book.specs.Model.{Model, anyone, board_in, opening}
 use Rattle.round.specs.declared.log.Answer.{Answer}
 use Rattle.round.specs.declared.log.Answer.TheVariants.{Pending}
 use Rattle.round.specs.declared.log.Entry.{Entry}
 use Rattle.round.specs.Calls.{left}
 use Rattle.round.specs.Held.{PlaceModel, on_place}
 use Rattle.round.specs.Log.{call_of, answer_to, answer_call, open_call}
-use Rattle.round.specs.Promise.{calls_of, answers_of, market, line_after, round_after, Logged, Carried, Denied}
+use Rattle.round.specs.Promise.{WrittenBack, calls_of, answers_of, market, line_after, round_after, Carried, Denied}
 use Rattle.round.specs.Running.{ran, ran_place, AnsweredTo}
 use Rattle.round.proofs.Peoples.{people_same}
 
@@ -129,6 +128,20 @@ module _ {S L : Type 0} (ahead : S → ℕ → ℕ → ℕ → Bool) (family : L
                   ∙ ap (answer_to (family p.limit) (get_or (calls_of es) j post)) (round_is (ahead p.standing) (family p.limit) m (take j (calls_of es)));
             };
           }
+
+  -- the round at the end is written back, where a round with the fixed part of an opening is
+  pub written_log : (u : Unit {0}) → ◌≡◌ {A = Result (Unit {0}) Fault × PlaceModel S L} (Ok u, q) (open_call ahead (sheets_of posts staff) p)
+      → r ≡ ran_place family q (calls_of es)
+      → ((m : SheetsModel) → in_range m ≡ true → r.round.0 ≡ (opening (ahead p.standing) m).0 → WrittenBack (ahead p.standing) r.round)
+      → WrittenBack (ahead p.standing) r.round
+  written_log u e f back = by (sheets_of posts staff) refl e
+    where
+      by : (s : Result SheetsModel Fault) → sheets_of posts staff ≡ s → ◌≡◌ {A = Result (Unit {0}) Fault × PlaceModel S L} (Ok u, q) (open_call ahead s p) → WrittenBack (ahead p.standing) r.round
+      by (Err x) k o = absurd (let g = ap (λ z. z.0) o in grind arith)
+      by (Ok m) k o =
+          let is : q ≡ record { standing = p.standing; limit = p.limit; round = opening (ahead p.standing) m } = ap (λ (z : Result (Unit {0}) Fault × PlaceModel S L). z.1) o in
+          let at = ap (λ (x : PlaceModel S L). x.round) f ∙ ap (λ (x : PlaceModel S L). ran (family x.limit) x.round (calls_of es)) is ∙ round_is (ahead p.standing) (family p.limit) m (calls_of es) in
+          back m (canonical.read_is_described posts staff m k).ranges (ap (λ (x : Model). x.0) at)
 
   -- the sheets have a fault
   pub denied_log : (x f : Fault) → ◌≡◌ {A = Result (Unit {0}) Fault × PlaceModel S L} (Err f, q) (open_call ahead (sheets_of posts staff) p) → x ≡ f → fs ≡ es → Denied ahead family posts staff p q es fs x

@@ -1,5 +1,5 @@
 -- Openings.
-use Rattle.std.proofs.Common.{◌≡◌, ℕ, Bool, Ok, Err, Result, sym, refl, ap, ◌∙◌, ap₂, arith}
+use Rattle.std.proofs.Common.{◌≡◌, ℕ, Bool, Ok, Err, Result, ap, ◌∙◌, arith}
 use Rattle.lines.specs.declared.faults.Fault.{Fault}
 use Rattle.sheets.specs.Model.{SheetsModel, blank}
 use Rattle.sheets.specs.Read.{reading}
@@ -33,3 +33,14 @@ desk_yes (Err f) before u n d e k = absurd (let g = ap (λ z. z.0) e in grind ar
 pub desk_no : (r : Result SheetsModel Fault) (before : Model) (f : Fault) (d : SheetsModel) → ◌≡◌ {A = Result (Unit {0}) Fault × SheetsModel} (Err f, d) (reading r) → d ≡ desk_left r before
 desk_no (Ok m) before f d e = absurd (let g = ap (λ z. z.0) e in grind arith)
 desk_no (Err h) before f d e = ap (λ (z : Result (Unit {0}) Fault × SheetsModel). z.1) e
+
+-- the same, told by the answer of the opening
+pub desk_opened : {S L : Type 0} (ahead : S → ℕ → ℕ → ℕ → Bool) (r : Result SheetsModel Fault) (p q : PlaceModel S L) (u : Unit {0}) (d : SheetsModel)
+    → ◌≡◌ {A = Result (Unit {0}) Fault × PlaceModel S L} (Ok u, q) (open_call ahead r p) → d ≡ desk_left r p.round → d ≡ sheets_in p.round
+desk_opened ahead (Ok m) p q u d e k = k
+desk_opened ahead (Err f) p q u d e k = absurd (let g = ap (λ z. z.0) e in grind arith)
+
+pub desk_denied : {S L : Type 0} (ahead : S → ℕ → ℕ → ℕ → Bool) (r : Result SheetsModel Fault) (p q : PlaceModel S L) (f : Fault) (d : SheetsModel)
+    → ◌≡◌ {A = Result (Unit {0}) Fault × PlaceModel S L} (Err f, q) (open_call ahead r p) → d ≡ desk_left r p.round → d ≡ blank
+desk_denied ahead (Ok m) p q f d e k = absurd (let g = ap (λ z. z.0) e in grind arith)
+desk_denied ahead (Err h) p q f d e k = k

@@ -1,10 +1,9 @@
 -- Over-asked lanes: what the limit's answer tells, and that their cutoffs can rise.
-use Rattle.std.proofs.Common.{◌≡◌, ℕ, zero, suc, ◌+◌, ◌-◌, ◌<◌, ◌≤◌, min, Bool, true, false, cond, not, ◌&&◌, eqb, ltb, ◌≢◌, ◌⊎◌, List, [], ◌∷◌, map, length, get_or, Some, None, vec_items, Option, sym, refl, ap, ◌∙◌, ap₂, inl, inr, ⊎_elim, add-zero, add-one, arith}
+use Rattle.std.proofs.Common.{◌≡◌, ℕ, zero, suc, ◌+◌, ◌-◌, ◌<◌, ◌≤◌, min, Bool, true, false, cond, not, ◌&&◌, eqb, ltb, ◌≢◌, List, length, get_or, Some, None, Option, sym, refl, ap, ◌∙◌, ap₂, inl, inr, ⊎_elim, add-zero, add-one, arith}
 use mathlib.Core.Path.{fun_ext}
-use Rattle.std.proofs.lemmas.List.{length-map}
-use Rattle.std.proofs.lemmas.Bool.{cases_Bool, cases_lt, cases_eq, both_ways, lt-ltb, le-ltb, ltb-true, eq-eqb, ne_eqb, cond-true, cond-false, and_parts, not-true}
+use Rattle.std.proofs.lemmas.Bool.{cases_lt, cases_eq, both_ways, lt-ltb, le-ltb, ltb-true, eq-eqb, ne_eqb, cond-true, cond-false, and_parts, not-true}
 use Rattle.matching.specs.Groups.{Group, nobody, told}
-use Rattle.matching.specs.Log.{State, picks, least, on_some, pressed}
+use Rattle.matching.specs.Log.{picks, least, on_some, pressed}
 use Rattle.matching.specs.Market.{Board, clears, offer, askers, over_asked}
 use Rattle.matching.specs.Picks.{holds}
 use Rattle.matching.proofs.Counts.{some_or_none}
@@ -13,7 +12,7 @@ use Rattle.matching.proofs.Offers.{board_clears_parts}
 use Rattle.sheets.specs.Held.{model_of}
 use Rattle.book.specs.declared.book.Book.{Book}
 use Rattle.book.specs.Held.{book_model, fixed_of, state_of}
-use Rattle.book.specs.Model.{Fixed, Model, unwished, anyone, board_in, offer_in, rank_in, with_cuts, lifted}
+use Rattle.book.specs.Model.{Model, board_in, offer_in, with_cuts, lifted}
 use Rattle.book.proofs.Asking.{no_offer}
 use Rattle.round.specs.Calls.{over_in, next_in}
 

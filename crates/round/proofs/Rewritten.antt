@@ -1,20 +1,19 @@
 -- The pair of sheets that a round writes.
-use Rattle.std.proofs.Common.{◌≡◌, ℕ, ◌≤◌, Bool, true, false, cond, ◌||◌, List, [], ◌∷◌, map, sym, refl, ap, ◌∙◌, subst, ap₂, arith}
+use Rattle.std.proofs.Common.{◌≡◌, ℕ, ◌≤◌, Bool, true, false, ◌||◌, List, [], sym, ap, ◌∙◌, arith}
 use Rattle.std.proofs.lemmas.Bool.{cond-false}
 use Rattle.matching.specs.Log.{opened}
-use Rattle.market.specs.Tables.{Tables, Person, person, tables_of, wishes_of}
+use Rattle.market.specs.Tables.{Person, tables_of, wishes_of}
 use Rattle.sheets.specs.Described.{Describes}
 use Rattle.sheets.specs.Held.{model_of}
-use Rattle.sheets.specs.Model.{SheetsModel, PostsModel, TeacherRecord}
+use Rattle.sheets.specs.Model.{SheetsModel}
 use Rattle.sheets.specs.Ranges.{in_range, is_blank}
-use Rattle.sheets.specs.Read.{sheets_of}
 use Rattle.sheets.specs.Tables.{kept, posts_sheet, staff_sheet}
 use Rattle.sheets.specs.Written.{posts_bytes, staff_bytes}
 use Rattle.sheets.proofs.Canonical.{canonical}
 use Rattle.sheets.proofs.KeptLaws.{schools_in_range, unblank}
 use Rattle.book.specs.declared.book.Book.{Book}
 use Rattle.book.specs.Held.{book_model}
-use Rattle.book.specs.Model.{Fixed, Model, unwished, fixed_from, tables_in, ranks_by, opening}
+use Rattle.book.specs.Model.{Fixed, fixed_from, tables_in, ranks_by, opening}
 use Rattle.book.specs.Rewritten.{sheets_in, posts_in, staff_in}
 use Rattle.book.proofs.Rewriting.{sheets_kept}
 use Rattle.round.specs.Promise.{WrittenBack}

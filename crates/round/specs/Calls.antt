@@ -1,10 +1,10 @@
 -- What each call answers, and the round that it leaves. Teachers and lanes go by their numbers, from 1. Assumes nothing.
-use Rattle.std.specs.Prelude.{ℕ, zero, suc, ◌+◌, ◌-◌, Bool, true, false, cond, List, is_some, Ok, Err, Option, Result}
+use Rattle.std.specs.Prelude.{ℕ, ◌-◌, Bool, cond, List, is_some, Ok, Err, Option, Result}
 use Rattle.matching.specs.Count.{count}
 use Rattle.matching.specs.Groups.{Group}
-use Rattle.matching.specs.Log.{State, Call, wish, press, sweep, settle, post, picks, within, after, next, presses, settled}
-use Rattle.matching.specs.Market.{Board, over_asked}
-use Rattle.book.specs.Model.{Fixed, Model, board_in, with_cuts}
+use Rattle.matching.specs.Log.{Call, wish, press, sweep, settle, post, picks, within, after, next, presses, settled}
+use Rattle.matching.specs.Market.{over_asked}
+use Rattle.book.specs.Model.{Model, board_in, with_cuts}
 use Rattle.round.specs.declared.answers.Refusal.{Refusal}
 use Rattle.round.specs.declared.answers.Refusal.TheVariants.{Posted, NoTeacher, BadWishes, NoLane, NotOverAsked, OverAsked, BadCutoff, NotLicensed, BadRow}
 use Rattle.round.specs.declared.answers.Settled.{Settled}

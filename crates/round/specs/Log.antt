@@ -1,5 +1,5 @@
 -- Calls, answers and openings, as a log has them. Assumes nothing.
-use Rattle.std.specs.Prelude.{ℕ, Bool, List, Ok, Err, Result}
+use Rattle.std.specs.Prelude.{ℕ, Bool, Ok, Err, Result}
 use Rattle.lines.specs.declared.faults.Fault.{Fault}
 use Rattle.matching.specs.Groups.{Group}
 use Rattle.matching.specs.Log.{Call, wish, press, sweep, settle, post}
@@ -9,7 +9,7 @@ use Rattle.book.specs.Rewritten.{sheets_in}
 use Rattle.round.specs.declared.log.Command.{Command}
 use Rattle.round.specs.declared.log.Command.TheVariants.{Wish as WishCommand, Press as PressCommand, Sweep as SweepCommand, Settle as SettleCommand, Post as PostCommand}
 use Rattle.round.specs.declared.log.Answer.{Answer}
-use Rattle.round.specs.declared.log.Answer.TheVariants.{Pending, Wish, Press, Sweep, Settle, Post}
+use Rattle.round.specs.declared.log.Answer.TheVariants.{Wish, Press, Sweep, Settle, Post}
 use Rattle.round.specs.Calls.{left, wish_call, press_call, sweep_call, settle_call, post_call}
 use Rattle.round.specs.Held.{PlaceModel}
 

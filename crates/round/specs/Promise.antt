@@ -9,7 +9,7 @@ use Rattle.sheets.specs.Described.{Describes, Undescribed}
 use Rattle.sheets.specs.Model.{SheetsModel, blank}
 use Rattle.sheets.specs.Read.{sheets_of}
 use Rattle.market.specs.Tables.{tables_of, wishes_of, market_of}
-use Rattle.book.specs.Model.{Fixed, Model, opening}
+use Rattle.book.specs.Model.{Model, opening}
 use Rattle.book.specs.Rewritten.{sheets_in, posts_in, staff_in}
 use Rattle.round.specs.declared.log.Answer.{Answer}
 use Rattle.round.specs.declared.log.Answer.TheVariants.{Pending}

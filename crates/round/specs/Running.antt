@@ -1,5 +1,5 @@
 -- How far a log has come. Assumes nothing.
-use Rattle.std.specs.Prelude.{◌≡◌, ℕ, ◌<◌, Bool, List, length, take, slice_index_or}
+use Rattle.std.specs.Prelude.{◌≡◌, ℕ, ◌<◌, Bool, List, take, slice_index_or}
 use Rattle.matching.specs.Groups.{Group}
 use Rattle.matching.specs.Log.{Call, post, line}
 use Rattle.book.specs.Model.{Model, board_in}

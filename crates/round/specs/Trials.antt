@@ -1,5 +1,4 @@
 -- The refusals of a trial. Assumes nothing.
-use Rattle.std.specs.Prelude.{ℕ, List, Ok, Err, Result}
 use Rattle.book.specs.declared.book.trial.TrialRefusal.{TrialRefusal}
 use Rattle.book.specs.declared.book.trial.TrialRefusal.TheVariants.{NoLane as NoLaneTried, BadCutoff as BadCutoffTried, BadRow as BadRowTried}
 use Rattle.round.specs.declared.answers.Refusal.{Refusal}

@@ -1,14 +1,13 @@
-use Rattle.std.proofs.Common.{◌≡◌, ◌<◌, List, [], length, get_or, take, sym, refl, ap, ◌∙◌, arith}
+use Rattle.std.proofs.Common.{◌≡◌, ◌<◌, List, [], length, get_or, sym, refl, ap, ◌∙◌, arith}
 use Rattle.std.proofs.lemmas.List.{length-map, take_all}
 use Rattle.matching.specs.Log.{Call, post}
-use Rattle.book.specs.Held.{book_model}
 use Rattle.book.specs.Model.{Model}
 use Rattle.round.specs.declared.log.Command.TheVariants.{Wish}
 use Rattle.round.specs.declared.log.Answer.TheVariants.{Pending}
 use Rattle.round.specs.declared.log.Entry.{Entry}
 use Rattle.round.specs.Held.{place_of}
 use Rattle.round.specs.Log.{call_of}
-use Rattle.round.specs.Promise.{calls_of, answers_of}
+use Rattle.round.specs.Promise.{calls_of}
 use Rattle.round.specs.Running.{ran_place}
 use Rattle.round.proofs.Logging.{ran_none, place_more, answer_more, call_read, calls_stay, answers_more}
 use Rattle.round.proofs.place.Place.carry_out_all.Goals as goal
@@ -26,17 +25,17 @@ pub loop-i-preserved : goal.loop-i-preserved
 loop-i-preserved g c =
     let p = place_of c.args.self.now in
     let q = place_of c.loop-i.self in
-    let r = place_of c.carry-out-answer.new.self in
+    let r = place_of c.carry_out-answer.new.self in
     let es = c.loop-i.entries in
     let cs = calls_of c.args.entries.now in
     let i = c.loop-i.i in
-    let x : Entry = record { call = (get_or es i past).call; answer = c.carry-out-answer.result } in
+    let x : Entry = record { call = (get_or es i past).call; answer = c.carry_out-answer.result } in
     let h : i < length es = omega arith in
     let k : i < length cs = omega (arith, ap length c.loop-i.invariant.1, length-map es (λ (e : Entry). call_of e.call)) in
     let is : get_or cs i post ≡ call_of (get_or es i past).call = ap (λ (ys : List Call). get_or ys i post) (sym c.loop-i.invariant.1) ∙ call_read es i past x h in (
-      place_more g.L.Limit.family p q r cs i (call_of (get_or es i past).call) c.carry-out-answer.result k is c.loop-i.invariant.0 c.carry-out-answer.ensures,
+      place_more g.L.Limit.family p q r cs i (call_of (get_or es i past).call) c.carry_out-answer.result k is c.loop-i.invariant.0 c.carry_out-answer.ensures,
       calls_stay es i past x h refl ∙ c.loop-i.invariant.1,
-      answers_more es i past x h (g.L.Limit.family p.limit) p.round cs c.loop-i.invariant.2 (answer_more g.L.Limit.family p q r cs i (call_of (get_or es i past).call) c.carry-out-answer.result k is c.loop-i.invariant.0 c.carry-out-answer.ensures),
+      answers_more es i past x h (g.L.Limit.family p.limit) p.round cs c.loop-i.invariant.2 (answer_more g.L.Limit.family p q r cs i (call_of (get_or es i past).call) c.carry_out-answer.result k is c.loop-i.invariant.0 c.carry_out-answer.ensures),
     )
 
 pub returns : goal.returns

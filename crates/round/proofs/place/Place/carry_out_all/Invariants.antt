@@ -1,4 +1,4 @@
-use Rattle.std.proofs.Common.{◌≡◌, length, take}
+use Rattle.std.proofs.Common.{◌≡◌, take}
 use Rattle.book.specs.Held.{book_model}
 use Rattle.round.specs.Held.{place_of}
 use Rattle.round.specs.Promise.{calls_of, answers_of}

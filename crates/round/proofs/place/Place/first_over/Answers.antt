@@ -8,18 +8,18 @@ use Rattle.round.proofs.place.Place.first_over.Goals as goal
 pub loop-l-init : goal.loop-l-init
 loop-l-init g c = let p = c.args.self.now in least_start (over_in (g.L.Limit.family p.limit) (book_model p.book))
 
-pub returns-then-is-crowded : goal.returns-then-is-crowded
-returns-then-is-crowded g c =
+pub returns-then-is_crowded : goal.returns-then-is_crowded
+returns-then-is_crowded g c =
     let p = c.args.self.now in
-    sym (least_hit (over_in (g.L.Limit.family p.limit) (book_model p.book)) c.loop-l.l (length (book_model p.book).0.posts.lanes) c.loop-l.invariant (sym c.if-is-crowded.ensures) (omega (arith, c.lane-count-l-end.ensures.value)))
+    sym (least_hit (over_in (g.L.Limit.family p.limit) (book_model p.book)) c.loop-l.l (length (book_model p.book).0.posts.lanes) c.loop-l.invariant (sym c.if-is_crowded.ensures) (omega (arith, c.lane_count-l-end.ensures.value)))
 
 pub loop-l-preserved : goal.loop-l-preserved
 loop-l-preserved g c =
     let p = c.args.self.now in
-    least_miss (over_in (g.L.Limit.family p.limit) (book_model p.book)) c.loop-l.l c.loop-l.invariant (sym c.if-is-crowded.ensures)
+    least_miss (over_in (g.L.Limit.family p.limit) (book_model p.book)) c.loop-l.l c.loop-l.invariant (sym c.if-is_crowded.ensures)
 
 pub returns : goal.returns
 returns g c =
     let p = c.args.self.now in
-    let e : c.loop-l.l ≡ length (book_model p.book).0.posts.lanes = omega (arith, c.lane-count-l-end.ensures.value) in
+    let e : c.loop-l.l ≡ length (book_model p.book).0.posts.lanes = omega (arith, c.lane_count-l-end.ensures.value) in
     sym (ap (least (over_in (g.L.Limit.family p.limit) (book_model p.book))) (sym e) ∙ c.loop-l.invariant)
