@@ -4,7 +4,7 @@ import subprocess
 from pathlib import Path
 
 ROOT = Path(__file__).resolve().parent.parent
-POSTING = ROOT / "target/bin/posting"
+POSTING = ROOT / "crates/posting/out/posting"
 SCRATCH = ROOT / "target/bench"
 BASELINE = SCRATCH / "baseline"
 

@@ -110,7 +110,7 @@ def quotient(one, other):
 def main():
     parser = argparse.ArgumentParser(description=__doc__.splitlines()[0])
     parser.add_argument("--time-limit", type=float, default=600, help="seconds for one run (default 600)")
-    parser.add_argument("posting", nargs="?", type=Path, default=POSTING, help="default target/bin/posting")
+    parser.add_argument("posting", nargs="?", type=Path, default=POSTING, help="default crates/posting/out/posting")
     options = parser.parse_args()
     posting = options.posting.resolve()
     if not posting.is_file():

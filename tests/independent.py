@@ -218,7 +218,7 @@ def main():
     cases = int(sys.argv[1]) if len(sys.argv) > 1 else 20000
     seed = int(sys.argv[2]) if len(sys.argv) > 2 else 1
     here = os.path.dirname(os.path.abspath(__file__))
-    program = sys.argv[3] if len(sys.argv) > 3 else os.path.join(here, "..", "target", "bin", "posting")
+    program = sys.argv[3] if len(sys.argv) > 3 else os.path.join(here, "..", "crates", "posting", "out", "posting")
     rng = random.Random(seed)
     wrong, refused = 0, 0
     with tempfile.TemporaryDirectory() as folder:
