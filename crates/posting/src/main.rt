@@ -11,6 +11,7 @@ use round::{Answer, Command, Entry, Place};
 use rules::{Points, Seats};
 use sheets::Sheets;
 use shown::{Stop, show_fault, show_result};
+use std::process::ExitCode;
 
 // Fills the standing and the limit from the sheets: points decide, and a lane has as many seats as its size.
 fn fill_rules(
@@ -61,7 +62,15 @@ fn run(rt: &HostRuntime, names: &SheetFiles) -> Result<(), Stop> {
     show_result(rt, &place)
 }
 
-fn main(rt: HostRuntime) -> Result<(), Stop> {
-    let names = sheet_files(&rt)?;
-    run(&rt, &names)
+fn start(rt: &HostRuntime) -> Result<(), Stop> {
+    let names = sheet_files(rt)?;
+    run(rt, &names)
+}
+
+// What stops the program has been shown by then, so no error is handed on.
+fn main(rt: HostRuntime) -> ExitCode {
+    match start(&rt) {
+        Ok(()) => ExitCode::SUCCESS,
+        Err(_) => ExitCode::FAILURE,
+    }
 }

@@ -1,3 +1,4 @@
+-- Choices between two tests, for the laws of the purse. Assumes nothing.
 use Rattle.std.specs.Prelude.{◌≡◌, Bool, true, false, cond}
 
 -- what both of two tests keep, a choice of them keeps

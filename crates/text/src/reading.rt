@@ -42,7 +42,7 @@ pub fn read_number(piece: &[u8]) -> Option<u16>
     Some(n as u16)
 }
 
-// The numbers of a value, parted by commas; none where one is not well_formed or there are more than N.
+// The numbers of a value, parted by commas; none where one is not well-formed or there are more than N.
 pub fn read_list<const N: usize>(value: &[u8]) -> Option<BoundedList<N>>
     ensures { option_map listed result ≡ capped N (numbers value.now) }
 {

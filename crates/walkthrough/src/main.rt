@@ -14,16 +14,25 @@ mod walk;
 use calls::sample_calls;
 use ending::show_ending;
 use files::read_sheet;
+use std::process::ExitCode;
 use stop::Stop;
 use story::{show_calls, show_opening};
 use walk::open_walk;
 
-fn main(rt: HostRuntime) -> Result<(), Stop> {
-    let posts = read_sheet(&rt, "posts.txt")?;
-    let staff = read_sheet(&rt, "staff.txt")?;
-    let mut walk = open_walk(&rt, &posts, &staff)?;
-    show_opening(&rt, &walk)?;
-    show_calls(&rt, &mut walk, &sample_calls())?;
-    show_ending(&rt, &walk)?;
+fn run(rt: &HostRuntime) -> Result<(), Stop> {
+    let posts = read_sheet(rt, "posts.txt")?;
+    let staff = read_sheet(rt, "staff.txt")?;
+    let mut walk = open_walk(rt, &posts, &staff)?;
+    show_opening(rt, &walk)?;
+    show_calls(rt, &mut walk, &sample_calls())?;
+    show_ending(rt, &walk)?;
     Ok(())
+}
+
+// What stops the program has been shown by then, so no error is handed on.
+fn main(rt: HostRuntime) -> ExitCode {
+    match run(&rt) {
+        Ok(()) => ExitCode::SUCCESS,
+        Err(_) => ExitCode::FAILURE,
+    }
 }
