@@ -2,6 +2,7 @@
 // from bands and a standing.
 #![tactic(auto)]
 
+pub mod numbers;
 pub mod policy;
 pub mod ranks;
 pub mod theorems;
