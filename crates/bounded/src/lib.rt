@@ -3,4 +3,4 @@
 
 mod list;
 
-pub use list::BoundedList;
+pub use list::{BoundedList, Full};

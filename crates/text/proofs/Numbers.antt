@@ -1,16 +1,15 @@
 -- A number is read from its decimal digits, and from no other bytes.
-use Rattle.std.proofs.Common.{◌≡◌, ℕ, ◌+◌, ◌-◌, ◌^◌, ◌<◌, ◌≤◌, true, not, eqb, List, length, get_or, take, drop, Some, None, Ok, Err, decimal, Result, sym, ap, ◌∙◌, ⊎_elim, arith, lit<, length-take}
+use Rattle.std.proofs.Common.{◌≡◌, ℕ, ◌-◌, ◌^◌, ◌<◌, ◌≤◌, true, not, eqb, List, length, get_or, take, Some, None, Ok, Err, decimal, Result, sym, ap, ◌∙◌, ⊎_elim, arith, lit<, length-take}
 use Rattle.std.specs.Str.Parse.{digits_value, AllDigits, ParsesUnsigned}
 use Rattle.std.specs.Int.{IsInRange}
 use Rattle.std.specs.Char.{digit_value as ascii_digit_value}
 use Rattle.std.specs.Str.{all_ascii_digits}
-use Rattle.std.proofs.lemmas.Bool.{cases_Bool, cases_lt, ne_eqb, eq-eqb}
-use Rattle.std.proofs.lemmas.List.Sums.{prefix_len-drop_yes, prefix_len-drop_no, prefix_len-drop_all}
+use Rattle.std.proofs.lemmas.Bool.{cases_Bool, cases_lt, ne_eqb}
 use Rattle.std.proofs.lemmas.Bool.Decides.{nat_tests}
 use Rattle.std.proofs.lemmas.Str.Parse.{IsNumeralModel, numerals_by_value, tells_all_ascii_digits, tells_digits, digit_at, parse_plain, digits_value_short}
 use Rattle.std.proofs.lemmas.Result.{OkIff-at_ok, OkIff-at_err}
 use Rattle.std.proofs.lemmas.Fmt.{decimal-digits_value, digits_value-decimal, digits_decimal, length-decimal-le, decimal_nonempty, first_decimal, decimal_digit}
-use Rattle.text.specs.Number.{well_formed, number, before}
+use Rattle.text.specs.Number.{well_formed, number}
 
 pub own : IsNumeralModel (λ ds. all_ascii_digits ds ≡ true) (digits_value 10)
 own = numerals_by_value _ tells_all_ascii_digits
@@ -69,15 +68,6 @@ number_decimal n s =
 
 apart : (x b : ℕ) → (x ≡ b → ⊥) → not (eqb x b) ≡ true
 apart x b h = ap not (ne_eqb x b h)
-
-pub before_more : (b : ℕ) (bs : List ℕ) (i : ℕ) → i < length bs → (get_or bs i 0 ≡ b → ⊥) → before b (drop i bs) ≡ 1 + before b (drop (i + 1) bs)
-before_more b bs i l h = prefix_len-drop_yes (λ c. not (eqb c b)) bs i 0 l (apart _ b h)
-
-pub before_here : (b : ℕ) (bs : List ℕ) (i : ℕ) → i < length bs → get_or bs i 0 ≡ b → before b (drop i bs) ≡ 0
-before_here b bs i l h = prefix_len-drop_no (λ c. not (eqb c b)) bs i 0 l (ap not (eq-eqb _ b h))
-
-pub before_all : (b : ℕ) (bs : List ℕ) (i : ℕ) → length bs ≤ i → before b (drop i bs) ≡ 0
-before_all b bs i l = prefix_len-drop_all (λ c. not (eqb c b)) bs i l
 
 pub first_of : (ds : List ℕ) → Well ds → IsInRange 48 57 (get_or ds 0 0)
 first_of ds w = digit_at ds 0 (own.to ds w.digits) w.some

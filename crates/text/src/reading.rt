@@ -12,18 +12,15 @@ pub fn position_of(bytes: &[u8], b: u8) -> usize
     ensures value { result ≡ before b bytes.now }
     ensures within { result ≤ length bytes.now }
 {
-    let mut i = 0;
-    while i < bytes.len() && bytes[i] != b {
-        i += 1;
-    }
-    i
+    bytes.iter().position(|c| *c == b).unwrap_or(bytes.len())
 }
 
-// The number that the bytes write: 1 to 5 digits, no leading zero but 0 itself, at most 65535.
+// The number that the bytes write: 1 to 5 digits, no leading zero but 0 itself, at most 65535. The library's `parse` takes a plus sign and
+// leading zeros, so the digits are read here.
 pub fn read_number(piece: &[u8]) -> Option<u16>
     ensures { result ≡ number piece.now }
 {
-    if piece.len() < 1 || piece.len() > 5 {
+    if piece.is_empty() || piece.len() > 5 {
         return None;
     }
     if piece.len() > 1 && piece[0] == b'0' {
@@ -31,10 +28,10 @@ pub fn read_number(piece: &[u8]) -> Option<u16>
     }
     let mut n = 0u32;
     for b in piece {
-        if *b < 48 || *b > 57 {
+        if !b.is_ascii_digit() {
             return None;
         }
-        n = n * 10 + (*b - 48) as u32;
+        n = n * 10 + u32::from(*b - b'0');
     }
     if n > 65535 {
         return None;
@@ -47,7 +44,7 @@ pub fn read_list<const N: usize>(value: &[u8]) -> Option<BoundedList<N>>
     ensures { option_map listed result ≡ capped N (numbers value.now) }
 {
     let mut out = BoundedList::new();
-    if value.len() == 0 {
+    if value.is_empty() {
         return Some(out);
     }
     let mut rest = value;
@@ -56,9 +53,7 @@ pub fn read_list<const N: usize>(value: &[u8]) -> Option<BoundedList<N>>
         let Some(n) = read_number(&rest[0..k]) else {
             return None;
         };
-        if !out.push(n) {
-            return None;
-        }
+        out.push(n).ok()?;
         if k == rest.len() {
             return Some(out);
         }

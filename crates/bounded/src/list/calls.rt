@@ -2,7 +2,7 @@
 ghost use Rattle.std.specs.Prelude.{◌≡◌, ◌≤◌, [], length, take};
 ghost use Rattle.bounded.specs.Listed.{listed, pushed};
 
-use super::BoundedList;
+use super::{BoundedList, Full};
 
 impl<const N: usize> BoundedList<N> {
     // The empty list.
@@ -15,17 +15,17 @@ impl<const N: usize> BoundedList<N> {
         }
     }
 
-    // Adds a number at the end and answers true; a full list stays as it is and answers false.
-    pub fn push(&mut self, x: u16) -> bool
+    // Adds a number at the end; a full list stays as it is.
+    pub fn push(&mut self, x: u16) -> Result<(), Full>
         ensures { (result, listed self.new) ≡ pushed N (listed self.old) x }
     {
         let at = self.len;
         if at < N {
             self.items[at] = x;
             self.len = at + 1;
-            return true;
+            return Ok(());
         }
-        false
+        Err(Full)
     }
 
     // The first numbers of a slice, as many as there is room for.
