@@ -1,7 +1,9 @@
 -- What is wrong with a sheet, and where. Assumes nothing.
-use Rattle.std.specs.Prelude.{ℕ, Ok, Err, Result}
+use Rattle.std.specs.Prelude.{ℕ, if◌then◌else◌, Ok, Err, Result, ◌==◌}
 use Rattle.lines.specs.declared.faults.Layer.{Layer}
-use Rattle.lines.specs.declared.faults.Layer.TheVariants.{Line, Sheet}
+use Rattle.lines.specs.declared.faults.Layer.TheVariants.{Line, Sheet as WholeSheet}
+use Rattle.lines.specs.declared.faults.Sheet.{Sheet}
+use Rattle.lines.specs.declared.faults.Sheet.TheVariants.{Posts, Staff}
 use Rattle.lines.specs.declared.faults.FaultKind.{FaultKind}
 use Rattle.lines.specs.declared.faults.FaultKind.TheVariants.{TooLong, Unended, WrongKey, Malformed, OutOfRange, Disordered, PairTaken, Trailing}
 use Rattle.lines.specs.declared.faults.Fault.{Fault}
@@ -20,14 +22,23 @@ number_of Trailing = 8
 
 -- a line by itself shows the faults 3 to 6; the others are found by looking at the sheet
 abbrev pub layer_of : FaultKind → Layer
-layer_of TooLong = Sheet
-layer_of Unended = Sheet
+layer_of TooLong = WholeSheet
+layer_of Unended = WholeSheet
 layer_of WrongKey = Line
 layer_of Malformed = Line
 layer_of OutOfRange = Line
 layer_of Disordered = Line
-layer_of PairTaken = Sheet
-layer_of Trailing = Sheet
+layer_of PairTaken = WholeSheet
+layer_of Trailing = WholeSheet
+
+-- sheet 1 is posts and 2 is staff
+abbrev pub sheet_number : Sheet → ℕ
+sheet_number Posts = 1
+sheet_number Staff = 2
+
+-- a number other than 2 means posts
+abbrev pub sheet_from : ℕ → Sheet
+sheet_from n = if n == 2 then Staff else Posts
 
 -- a fault of the line that begins at the spot
 abbrev pub fault : Spot → FaultKind → Fault

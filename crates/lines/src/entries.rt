@@ -13,12 +13,7 @@ use bounded::BoundedList;
 pub fn all_in_range(ns: &[u16], low: u16, high: u16) -> bool
     ensures { result ≡ all_within low high ns.now }
 {
-    for n in ns {
-        if *n < low || *n > high {
-            return false;
-        }
-    }
-    true
+    ns.iter().all(|n| (low..=high).contains(n))
 }
 
 // Is x one of the numbers?
@@ -32,12 +27,10 @@ pub fn holds(ns: &[u16], x: u16) -> bool
 pub fn distinct(ns: &[u16]) -> bool
     ensures { result ≡ distinct_of ns.now }
 {
-    let mut i = 0;
-    while i < ns.len() {
-        if holds(&ns[i + 1..], ns[i]) {
+    for (i, n) in ns.iter().enumerate() {
+        if holds(&ns[i + 1..], *n) {
             return false;
         }
-        i += 1;
     }
     true
 }
@@ -60,7 +53,7 @@ fn rising(ns: &[u16]) -> bool
 pub fn number_at(ns: &[u16], i: usize) -> u16
     ensures { result ≡ slice_index ns.now i }
 {
-    if i < ns.len() { ns[i] } else { 0 }
+    ns.get(i).copied().unwrap_or(0)
 }
 
 // A line with one number in its range, and the place behind it.

@@ -8,7 +8,7 @@ mod lines;
 mod writes;
 
 pub use entries::{all_in_range, distinct, holds, licences, number_at, single, unrepeated};
-pub use faults::{Fault, FaultKind, Layer, Spot};
+pub use faults::{Fault, FaultKind, Layer, Sheet, Spot};
 pub use keys::Key;
 pub use lines::{Line, field};
 pub use writes::put_line;

@@ -9,7 +9,8 @@ use super::keys::{Key, value_of};
 use bounded::BoundedList;
 use text::{position_of, read_list};
 
-// A line by its kind. The value stays a part of the sheet, and its place there is kept with it.
+// A line by its kind, whose cases have the same two fields: readers tell the kinds apart. The value stays a part of the sheet, and its place
+// there is kept with it.
 #[derive(Clone, Copy)]
 pub enum Line<'a> {
     Head { value: &'a [u8], place: usize },
@@ -57,11 +58,9 @@ fn line_bytes<'a>(sheet: &'a [u8], at: Spot) -> Result<&'a [u8], Fault>
     ensures value { seen (λ x. x.now) result ≡ line_at sheet.now at }
     ensures within { IfOk result (λ l. at.place + length l.now < length sheet.now) }
 {
-    let place = at.place;
-    if place > sheet.len() {
+    let Some(rest) = sheet.get(at.place..) else {
         return Err(at.fault(FaultKind::Unended));
-    }
-    let rest = &sheet[place..];
+    };
     let k = position_of(rest, b'\n');
     if k < rest.len() {
         Ok(&rest[0..k])

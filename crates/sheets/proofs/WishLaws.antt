@@ -1,11 +1,13 @@
 -- Sheets with another wish list for one teacher.
-use Rattle.std.proofs.Common.{◌≡◌, ℕ, zero, suc, ◌<◌, ◌≤◌, Bool, true, false, ◌&&◌, ◌||◌, eqb, ltb, leb, List, [], ◌∷◌, map, length, get_or, take, set, sym, refl, ap, ◌∙◌, arith, length-set}
-use Rattle.std.proofs.lemmas.List.{take_all, map-set, length-map, get_or-map}
-use Rattle.std.proofs.lemmas.Bool.{and_parts, and_from, cond-true, cond-false, lt-ltb, le-ltb, eqb-true, leb-true}
+use Rattle.std.proofs.Common.{◌≡◌, ℕ, zero, suc, ◌<◌, ◌≤◌, Bool, true, false, ◌&&◌, ◌||◌, eqb, leb, List, [], ◌∷◌, map, length, get_or, take, set, Ok, Err, Result, sym, refl, ap, ◌∙◌, arith, length-set}
+use Rattle.std.proofs.lemmas.List.{take_all, map-set, get_or-map}
+use Rattle.std.proofs.lemmas.Bool.{and_parts, and_from, lt-ltb, le-ltb, eqb-true, leb-true}
 use Rattle.bounded.specs.declared.list.BoundedList.{BoundedList}
 use Rattle.bounded.specs.Listed.{listed}
 use Rattle.lines.specs.Entries.{within, distinct, further}
 use Rattle.sheets.specs.declared.records.Teacher.{Teacher}
+use Rattle.sheets.specs.declared.refusals.WishRefusal.{WishRefusal}
+use Rattle.sheets.specs.declared.refusals.WishRefusal.TheVariants.{NoTeacher, BadWishes}
 use Rattle.sheets.specs.Model.{SheetsModel, TeacherRecord, teacher_record}
 use Rattle.sheets.specs.Ranges.{every, few_within, wish_ok, teacher_ok, staff_ok, posts_ok, in_range, is_blank}
 use Rattle.sheets.specs.Tables.{kept, with_wish, nobody, rewished}
@@ -73,18 +75,14 @@ module _ (m : SheetsModel) (t : ℕ) (w : List ℕ) (l : t < length m.teachers) 
   pub then_kept : kept m ≡ true → kept then' ≡ true
   then_kept h = or_true (is_blank then') (in_range then') (then_in_range (someone m h (omega arith)))
 
-  pub rewished_yes : rewished m t w ≡ (true, then')
-  rewished_yes = cond-true (ltb t (length m.teachers) && wish_ok m.posts.schools w) (true, then') (false, m) (and_from (ltb t (length m.teachers)) (wish_ok m.posts.schools w) (lt-ltb t (length m.teachers) l) ok)
+  pub rewished_yes : rewished m t w ≡ (Ok tt, then')
+  rewished_yes = rw (lt-ltb t (length m.teachers) l, ok) refl
 
-pub rewished_no : (m : SheetsModel) (t : ℕ) (w : List ℕ) → (ltb t (length m.teachers) && wish_ok m.posts.schools w) ≡ false → ◌≡◌ {A = Bool × SheetsModel} (false, m) (rewished m t w)
-rewished_no m t w h = sym (cond-false (ltb t (length m.teachers) && wish_ok m.posts.schools w) (true, record { posts = m.posts; teachers = set m.teachers t (with_wish w (get_or m.teachers t nobody)) }) (false, m) h)
+pub rewished_no_teacher : (m : SheetsModel) (t : ℕ) (w : List ℕ) → length m.teachers ≤ t → ◌≡◌ {A = Result (Unit {0}) WishRefusal × SheetsModel} (Err NoTeacher, m) (rewished m t w)
+rewished_no_teacher m t w h = rw (le-ltb t (length m.teachers) h) refl
 
-pub no_teacher : (ts : List Teacher) (t : ℕ) (b : Bool) → length ts ≤ t → (ltb t (length (map teacher_record ts)) && b) ≡ false
-no_teacher ts t b h = ap (λ x. x && b) (le-ltb t (length (map teacher_record ts)) (omega (arith, length-map ts teacher_record)))
-
-pub no_wish : (a b : Bool) → b ≡ false → (a && b) ≡ false
-no_wish true b h = h
-no_wish false b h = refl
+pub rewished_no_wish : (m : SheetsModel) (t : ℕ) (w : List ℕ) → t < length m.teachers → wish_ok m.posts.schools w ≡ false → ◌≡◌ {A = Result (Unit {0}) WishRefusal × SheetsModel} (Err BadWishes, m) (rewished m t w)
+rewished_no_wish m t w l h = rw (lt-ltb t (length m.teachers) l, h) refl
 
 -- the code's record with the list w
 module _ (ts : List Teacher) (t : ℕ) (x : Teacher) (l : t < length ts) (is : x ≡ get_or ts t x) (w : List ℕ) (list : BoundedList 12) (copied : listed list ≡ take 12 w) (few : length w ≤ 12) where

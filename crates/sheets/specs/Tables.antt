@@ -1,7 +1,9 @@
 -- What the sheets' place in memory holds. Assumes nothing.
-use Rattle.std.specs.Prelude.{ℕ, Bool, true, false, cond, ◌&&◌, ◌||◌, List, [], map, length, nat_lt, slice_index_or, slice_set}
+use Rattle.std.specs.Prelude.{ℕ, Bool, cond, if◌then◌else◌, ◌||◌, List, [], map, length, Ok, Err, Result, nat_lt, slice_index_or, slice_set}
 use Rattle.sheets.specs.declared.records.Lane.{Lane}
 use Rattle.sheets.specs.declared.records.Teacher.{Teacher}
+use Rattle.sheets.specs.declared.refusals.WishRefusal.{WishRefusal}
+use Rattle.sheets.specs.declared.refusals.WishRefusal.TheVariants.{NoTeacher, BadWishes}
 use Rattle.sheets.specs.Model.{PostsModel, SheetsModel, TeacherRecord, lane_record, teacher_record}
 use Rattle.sheets.specs.Ranges.{in_range, is_blank, wish_ok}
 use Rattle.sheets.specs.Written.{posts_bytes, staff_bytes}
@@ -24,16 +26,17 @@ posts_sheet m = cond (is_blank m) [] (posts_bytes m.posts)
 abbrev pub staff_sheet : SheetsModel → List ℕ
 staff_sheet m = cond (is_blank m) [] (staff_bytes m.teachers)
 
--- the sheets with another wish list for the teacher at index t, if there is such a teacher and the list is acceptable: whether it was put there,
--- and the sheets then
+-- the teacher with another wish list
 abbrev pub with_wish : List ℕ → TeacherRecord → TeacherRecord
 with_wish w t = record { home = t.home; main = t.main; also = t.also; wish = w; points = t.points; cost = t.cost }
 
 abbrev pub nobody : TeacherRecord
 nobody = record { home = 0; main = 0; also = []; wish = []; points = 0; cost = 0 }
 
-abbrev pub rewished : SheetsModel → ℕ → List ℕ → Bool × SheetsModel
+-- the sheets with another wish list for the teacher at index t, if there is such a teacher and the list is acceptable: the answer, and the sheets then
+abbrev pub rewished : SheetsModel → ℕ → List ℕ → Result (Unit {0}) WishRefusal × SheetsModel
 rewished m t w =
-    cond (nat_lt t (length m.teachers) && wish_ok m.posts.schools w)
-    (true, record { posts = m.posts; teachers = slice_set m.teachers t (with_wish w (slice_index_or m.teachers t nobody)) })
-    (false, m)
+    if nat_lt t (length m.teachers) then
+    if wish_ok m.posts.schools w then (Ok tt, record { posts = m.posts; teachers = slice_set m.teachers t (with_wish w (slice_index_or m.teachers t nobody)) })
+    else (Err BadWishes, m)
+    else (Err NoTeacher, m)

@@ -3,29 +3,28 @@ ghost use Rattle.std.specs.Prelude.{◌≡◌, take, drop};
 ghost use Rattle.text.specs.Number.{before};
 ghost use Rattle.sheets.specs.Handed.{chosen as chosen_of, text_at};
 
+use lines::Sheet;
 use text::position_of;
 
 fn chosen<'a>(posts: &'a [u8], staff: &'a [u8], sheet: u8) -> &'a [u8]
     ensures { result.now ≡ chosen_of sheet posts.now staff.now }
 {
-    if sheet == 2 { staff } else { posts }
+    match Sheet::from(sheet) {
+        Sheet::Posts => posts,
+        Sheet::Staff => staff,
+    }
 }
 
 fn rest_from(s: &[u8], place: usize) -> &[u8]
     ensures { result.now ≡ drop place s.now }
 {
-    if place < s.len() {
-        &s[place..]
-    } else {
-        &s[s.len()..]
-    }
+    &s[place.min(s.len())..]
 }
 
 fn first_line(s: &[u8]) -> &[u8]
     ensures { result.now ≡ take (before 10 s.now) s.now }
 {
-    let n = position_of(s, b'\n');
-    &s[0..n]
+    &s[..position_of(s, b'\n')]
 }
 
 // The line at the place, as a part of the sheet in which it stands: from the place to before the next byte 10 or the end. A place past the

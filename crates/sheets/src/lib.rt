@@ -15,6 +15,6 @@ mod writes;
 pub use handed::line_text;
 pub use laws::format_is_canonical;
 pub use records::{Lane, Teacher};
-pub use refusals::WriteRefusal;
+pub use refusals::{WishRefusal, WriteRefusal};
 pub use sheets::Sheets;
 pub use wishes::wishes_ok;

@@ -1,5 +1,12 @@
-// A lane and a teacher, as the sheets tell of them.
+// What the sheets tell: counts, a lane and a teacher.
 use bounded::BoundedList;
+
+// How many schools and how many subjects a round has.
+#[derive(Clone, Copy)]
+pub(crate) struct Counts {
+    pub(crate) schools: u16,
+    pub(crate) subjects: u16,
+}
 
 // One subject at one school. The list names teachers for the standing that goes by lists; what the size bounds is the limit's matter.
 #[derive(Clone, Copy)]
@@ -10,7 +17,7 @@ pub struct Lane {
     pub list: BoundedList<20>,
 }
 
-// Home is the school of the present post, or 0.
+// Home is the school of the present post, or 0, as the sheet has it.
 #[derive(Clone, Copy)]
 pub struct Teacher {
     pub home: u16,

@@ -2,117 +2,68 @@
 ghost use Rattle.std.specs.Prelude.{◌≡◌, ◌^◌, ◌<◌, ◌≤◌, [], map, vec_capacity};
 ghost use Rattle.lines.specs.Faults.{seen};
 ghost use Rattle.sheets.specs.Model.{teacher_record};
-ghost use Rattle.sheets.specs.Staff.{teacher as teacher_of, teachers as teachers_of, staff_of};
+ghost use Rattle.sheets.specs.Staff.{staff_spot, teacher as teacher_of, teachers as teachers_of, staff_of};
 
-use super::records::Teacher;
-use lines::{Fault, FaultKind, Key, Spot, licences, single, unrepeated};
+use super::records::{Counts, Teacher};
+use lines::{Fault, FaultKind, Key, Sheet, Spot, licences, single, unrepeated};
+
+// Line `line` of the staff sheet, which begins at the place.
+fn staff_spot(line: usize, place: usize) -> Spot
+    ensures { result ≡ staff_spot line place }
+{
+    Spot {
+        sheet: Sheet::Staff,
+        line,
+        place,
+    }
+}
 
 // The six lines of a teacher, and the place behind them.
 fn read_teacher(
     bytes: &[u8],
-    schools: u16,
-    subjects: u16,
+    counts: Counts,
     line: usize,
     place: usize,
 ) -> Result<(Teacher, usize), Fault>
     requires { line < 2 ^ 32 }
-    ensures { seen (λ p. (teacher_record p.0, p.1)) result ≡ teacher_of schools subjects bytes.now line place }
+    ensures { seen (λ p. (teacher_record p.0, p.1)) result ≡ teacher_of counts.schools counts.subjects bytes.now line place }
 {
-    let (home, place) = single(
-        bytes,
-        Spot {
-            sheet: 2,
-            line,
-            place,
-        },
-        Key::Home,
-        0,
-        schools,
-    )?;
-    let (main, place) = single(
-        bytes,
-        Spot {
-            sheet: 2,
-            line: line + 1,
-            place,
-        },
-        Key::Main,
-        1,
-        subjects,
-    )?;
-    let (also, place) = licences(
-        bytes,
-        Spot {
-            sheet: 2,
-            line: line + 2,
-            place,
-        },
+    let schools = counts.schools;
+    let subjects = counts.subjects;
+    let (home, place) = single(bytes, staff_spot(line, place), Key::Home, 0, schools)?;
+    let (main, place) = single(bytes, staff_spot(line + 1, place), Key::Main, 1, subjects)?;
+    let (also, place) = licences(bytes, staff_spot(line + 2, place), main, subjects)?;
+    let (wish, place) = unrepeated::<12>(bytes, staff_spot(line + 3, place), Key::Wish, schools)?;
+    let (points, place) = single(bytes, staff_spot(line + 4, place), Key::Points, 0, 65535)?;
+    let (cost, place) = single(bytes, staff_spot(line + 5, place), Key::Cost, 0, 100)?;
+    let teacher = Teacher {
+        home,
         main,
-        subjects,
-    )?;
-    let (wish, place) = unrepeated::<12>(
-        bytes,
-        Spot {
-            sheet: 2,
-            line: line + 3,
-            place,
-        },
-        Key::Wish,
-        schools,
-    )?;
-    let (points, place) = single(
-        bytes,
-        Spot {
-            sheet: 2,
-            line: line + 4,
-            place,
-        },
-        Key::Points,
-        0,
-        65535,
-    )?;
-    let (cost, place) = single(
-        bytes,
-        Spot {
-            sheet: 2,
-            line: line + 5,
-            place,
-        },
-        Key::Cost,
-        0,
-        100,
-    )?;
-    Ok((
-        Teacher {
-            home,
-            main,
-            also,
-            wish,
-            points,
-            cost,
-        },
-        place,
-    ))
+        also,
+        wish,
+        points,
+        cost,
+    };
+    Ok((teacher, place))
 }
 
 // The teachers, into the empty table, and the place behind them.
 fn fill_teachers(
     all: &mut Vec<Teacher>,
     bytes: &[u8],
-    schools: u16,
-    subjects: u16,
+    counts: Counts,
     count: u16,
     start: usize,
 ) -> Result<usize, Fault>
     requires { (all.old.items ≡ []) × (count ≤ vec_capacity all.old) }
-    ensures value { seen (λ p. (map teacher_record all.new.items, p)) result ≡ teachers_of count schools subjects bytes.now 2 start }
+    ensures value { seen (λ p. (map teacher_record all.new.items, p)) result ≡ teachers_of count counts.schools counts.subjects bytes.now 2 start }
     ensures capacity { vec_capacity all.new ≡ vec_capacity all.old }
 {
     let mut place = start;
     let mut line = 2;
     for _i in 0..count {
-        let (t, next) = read_teacher(bytes, schools, subjects, line, place)?;
-        all.push_reserved(t);
+        let (teacher, next) = read_teacher(bytes, counts, line, place)?;
+        all.push_reserved(teacher);
         place = next;
         line += 6;
     }
@@ -120,43 +71,19 @@ fn fill_teachers(
 }
 
 // The staff sheet, into the empty table.
-pub(crate) fn read_staff(
-    all: &mut Vec<Teacher>,
-    bytes: &[u8],
-    schools: u16,
-    subjects: u16,
-) -> Result<(), Fault>
+pub(crate) fn read_staff(all: &mut Vec<Teacher>, bytes: &[u8], counts: Counts) -> Result<(), Fault>
     requires { (all.old.items ≡ []) × (200 ≤ vec_capacity all.old) }
-    ensures value { seen (λ _. map teacher_record all.new.items) result ≡ staff_of schools subjects bytes.now }
+    ensures value { seen (λ _. map teacher_record all.new.items) result ≡ staff_of counts.schools counts.subjects bytes.now }
     ensures capacity { vec_capacity all.new ≡ vec_capacity all.old }
 {
     if bytes.len() > 30000 {
-        return Err(Spot {
-            sheet: 2,
-            line: 0,
-            place: 0,
-        }
-        .fault(FaultKind::TooLong));
+        return Err(staff_spot(0, 0).fault(FaultKind::TooLong));
     }
-    let (count, place) = single(
-        bytes,
-        Spot {
-            sheet: 2,
-            line: 1,
-            place: 0,
-        },
-        Key::Teachers,
-        1,
-        200,
-    )?;
-    let place = fill_teachers(all, bytes, schools, subjects, count, place)?;
+    let (count, place) = single(bytes, staff_spot(1, 0), Key::Teachers, 1, 200)?;
+    let place = fill_teachers(all, bytes, counts, count, place)?;
     if place != bytes.len() {
-        return Err(Spot {
-            sheet: 2,
-            line: 2 + 6 * count as usize,
-            place,
-        }
-        .fault(FaultKind::Trailing));
+        let behind = staff_spot(2 + 6 * count as usize, place);
+        return Err(behind.fault(FaultKind::Trailing));
     }
     Ok(())
 }

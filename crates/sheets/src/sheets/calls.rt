@@ -9,8 +9,8 @@ ghost use Rattle.sheets.specs.Tables.{tables_model, posts_sheet, staff_sheet, re
 ghost use Rattle.sheets.specs.Written.{writing};
 
 use super::super::posts::read_posts;
-use super::super::records::{Lane, Teacher};
-use super::super::refusals::WriteRefusal;
+use super::super::records::{Counts, Lane, Teacher};
+use super::super::refusals::{WishRefusal, WriteRefusal};
 use super::super::staff::read_staff;
 use super::super::wishes::wishes_ok;
 use super::super::writes::{put_posts, put_staff};
@@ -25,15 +25,15 @@ fn read_pair(
     teachers: &mut Vec<Teacher>,
     posts: &[u8],
     staff: &[u8],
-) -> Result<(u16, u16), Fault>
+) -> Result<Counts, Fault>
     requires { (lanes.old.items ≡ []) × ((80 ≤ vec_capacity lanes.old) × ((teachers.old.items ≡ []) × (200 ≤ vec_capacity teachers.old))) }
-    ensures value { seen (λ p. tables_model p.0 p.1 lanes.new.items teachers.new.items) result ≡ sheets_of posts.now staff.now }
+    ensures value { seen (λ p. tables_model p.schools p.subjects lanes.new.items teachers.new.items) result ≡ sheets_of posts.now staff.now }
     ensures lane_capacity { vec_capacity lanes.new ≡ vec_capacity lanes.old }
     ensures teacher_capacity { vec_capacity teachers.new ≡ vec_capacity teachers.old }
 {
-    let (schools, subjects) = read_posts(lanes, posts)?;
-    read_staff(teachers, staff, schools, subjects)?;
-    Ok((schools, subjects))
+    let counts = read_posts(lanes, posts)?;
+    read_staff(teachers, staff, counts)?;
+    Ok(counts)
 }
 
 impl Sheets {
@@ -70,9 +70,9 @@ impl Sheets {
         self.lanes.clear();
         self.teachers.clear();
         match read_pair(&mut self.lanes, &mut self.teachers, posts, staff) {
-            Ok((schools, subjects)) => {
-                self.schools = schools;
-                self.subjects = subjects;
+            Ok(counts) => {
+                self.schools = counts.schools;
+                self.subjects = counts.subjects;
                 Ok(())
             }
             Err(fault) => {
@@ -120,19 +120,18 @@ impl Sheets {
         Ok(put_staff(buf, self.teachers.as_slice()))
     }
 
-    // Gives the teacher at the index another wish list, and answers true; where there is no such teacher, or the list is not acceptable,
-    // nothing changes and the answer is false.
-    pub fn rewish(&mut self, teacher: usize, wishes: &[u16]) -> bool
+    // Gives the teacher at the index another wish list. Where there is no such teacher, or the list is not acceptable, nothing changes.
+    pub fn rewish(&mut self, teacher: usize, wishes: &[u16]) -> Result<(), WishRefusal>
         ensures { (result, model_of self.new) ≡ rewished (model_of self.old) teacher wishes.now }
     {
         if teacher >= self.teachers.len() {
-            return false;
+            return Err(WishRefusal::NoTeacher);
         }
         if !wishes_ok(self.schools, wishes) {
-            return false;
+            return Err(WishRefusal::BadWishes);
         }
         let record = &mut self.teachers[teacher];
         record.wish = BoundedList::copied(wishes);
-        true
+        Ok(())
     }
 }

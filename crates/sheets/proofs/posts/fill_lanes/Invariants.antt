@@ -9,4 +9,4 @@ invariant-loop-i l =
     (l.line ≡ 4 + 2 * l._i)
     × (vec_len l.all ≡ l._i)
     × (vec_capacity l.all ≡ vec_capacity l.initial.all)
-    × (lanes l.count l.schools l.subjects l.bytes l.start ≡ repeat (lane l.schools l.subjects l.bytes) 2 (l.count - l._i) (map lane_record (vec_items l.all)) l.line l.place)
+    × (lanes l.count l.counts.schools l.counts.subjects l.bytes l.start ≡ repeat (lane l.counts.schools l.counts.subjects l.bytes) 2 (l.count - l._i) (map lane_record (vec_items l.all)) l.line l.place)

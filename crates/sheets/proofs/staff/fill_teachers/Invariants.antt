@@ -9,4 +9,4 @@ invariant-loop-i l =
     (l.line ≡ 2 + 6 * l._i)
     × (vec_len l.all ≡ l._i)
     × (vec_capacity l.all ≡ vec_capacity l.initial.all)
-    × (teachers l.count l.schools l.subjects l.bytes 2 l.start ≡ repeat (λ done. teacher l.schools l.subjects l.bytes) 6 (l.count - l._i) (map teacher_record (vec_items l.all)) l.line l.place)
+    × (teachers l.count l.counts.schools l.counts.subjects l.bytes 2 l.start ≡ repeat (λ done. teacher l.counts.schools l.counts.subjects l.bytes) 6 (l.count - l._i) (map teacher_record (vec_items l.all)) l.line l.place)

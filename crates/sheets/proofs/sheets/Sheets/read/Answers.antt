@@ -13,16 +13,16 @@ invariant_of-self c =
     record {
       room = (omega arith, omega arith);
       few = (
-        omega (arith, read_lanes p s c.in-Ok.schools c.in-Ok.subjects ls ts e, c.read_pair.new.lanes.ok.0),
-        omega (arith, read_teachers p s c.in-Ok.schools c.in-Ok.subjects ls ts e, c.read_pair.new.teachers.ok.0),
+        omega (arith, read_lanes p s c.in-Ok.counts.schools c.in-Ok.counts.subjects ls ts e, c.read_pair.new.lanes.ok.0),
+        omega (arith, read_teachers p s c.in-Ok.counts.schools c.in-Ok.counts.subjects ls ts e, c.read_pair.new.teachers.ok.0),
       );
-      kept = read_kept p s c.in-Ok.schools c.in-Ok.subjects ls ts e;
+      kept = read_kept p s c.in-Ok.counts.schools c.in-Ok.counts.subjects ls ts e;
     }
 
 pub returns-in-Ok : goal.returns-in-Ok
 returns-in-Ok c = record {
   value = ap reading c.in-Ok.ensures.value;
-  described = read_describes c.args.posts.now c.args.staff.now c.in-Ok.schools c.in-Ok.subjects (vec_items c.read_pair.new.lanes) (vec_items c.read_pair.new.teachers) c.in-Ok.ensures.value;
+  described = read_describes c.args.posts.now c.args.staff.now c.in-Ok.counts.schools c.in-Ok.counts.subjects (vec_items c.read_pair.new.lanes) (vec_items c.read_pair.new.teachers) c.in-Ok.ensures.value;
 }
 
 pub returns-in-Err : goal.returns-in-Err

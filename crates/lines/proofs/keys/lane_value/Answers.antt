@@ -1,8 +1,0 @@
-use Rattle.std.proofs.Common.{arith, ltb-false}
-use Rattle.lines.specs.Keys.{key_bytes}
-use Rattle.lines.specs.declared.keys.Key.TheVariants.{Lane}
-use Rattle.lines.proofs.Fronts.{matched}
-use Rattle.lines.proofs.keys.lane_value.Goals as goal
-
-pub returns-in-108 : goal.returns-in-108
-returns-in-108 c = matched (key_bytes Lane) c.args.line.now (omega (arith, ltb-false)) (omega arith)
