@@ -1,4 +1,4 @@
-use Rattle.text.proofs.writing.+put_number.Given as goal
+use Rattle.text.proofs.writing.Page.+put_number.Given as goal
 
 abbrev pub decreases-put_number : goal.decreases-put_number
 decreases-put_number l = l.n
