@@ -1,11 +1,20 @@
-// Bytes, numbers and comma lists, put on a page one after another. Each is written only if all of its bytes have room, and the place moves
-// behind them in either case: so a page over an empty buffer tells how much room is wanted.
-ghost use Rattle.std.specs.Prelude.{◌≡◌, ℕ, List, decimal};
+// Texts put on a page, one behind another. Each is written only if all of its bytes have room, and the page's place moves behind them in either
+// case: so a page over an empty buffer tells how much room is wanted.
+ghost use Rattle.std.specs.Prelude.{◌≡◌, ℕ, List, [], ◌∷◌, ◌++◌, decimal, flat_map};
 ghost use Rattle.text.specs.Commas.{commas};
 ghost use Rattle.text.specs.Pages.{Gains};
-ghost use Rattle.text.specs.Puts.{entry as entry_of};
+
+// What has a text: the bytes that stand for it.
+pub trait Text {
+    ghost bytes: { Self → List ℕ };
+
+    // Puts the text on the page.
+    fn put_on(&self, page: &mut Page)
+        ensures { Gains page.old (bytes self.now) page.new };
+}
 
 // A lent buffer, and the place up to which it is written, or would be if it had room.
+#[derive(Drop)]
 pub struct Page<'a> {
     buf: &'a mut [u8],
     at: usize,
@@ -30,7 +39,7 @@ impl Page<'_> {
         self.at
     }
 
-    // The bytes, from the page's place on.
+    // The bytes.
     pub fn put(&mut self, bytes: &[u8])
         ensures { Gains self.old bytes.now self.new }
     {
@@ -51,31 +60,33 @@ impl Page<'_> {
         self.put(&[b'0' + (n % 10) as u8]);
     }
 
-    // The i-th number of a list, with the comma before it.
-    fn put_entry(&mut self, i: usize, n: u16)
-        ensures { Gains self.old (entry_of i n) self.new }
-    {
-        if i > 0 {
-            self.put(b",");
-        }
-        self.put_number(n);
-    }
-
     // The numbers with a comma between each two.
     pub fn put_list(&mut self, ns: &[u16])
         ensures { Gains self.old (commas ns.now) self.new }
     {
         for (i, n) in ns.iter().enumerate() {
-            self.put_entry(i, *n);
+            if i > 0 {
+                self.put(b",");
+            }
+            self.put_number(*n);
         }
     }
-}
 
-// What has a text: its bytes.
-pub trait Text {
-    ghost bytes: { Self → List ℕ };
+    // The key, the numbers with a comma between each two, and the byte 10.
+    pub fn put_line(&mut self, key: &[u8], ns: &[u16])
+        ensures { Gains self.old (key.now ++ (commas ns.now ++ (10 ∷ []))) self.new }
+    {
+        self.put(key);
+        self.put_list(ns);
+        self.put(b"\n");
+    }
 
-    // Puts the text on the page.
-    fn put_on(&self, page: &mut Page)
-        ensures { Gains page.old (bytes self.now) page.new };
+    // The texts of all.
+    pub fn put_each<T: Text>(&mut self, all: &[T])
+        ensures { Gains self.old (flat_map T.bytes all.now) self.new }
+    {
+        for x in all {
+            x.put_on(self);
+        }
+    }
 }
