@@ -12,7 +12,7 @@ loop-i-init c = nothing c.args.self.now (omega arith)
 pub loop-i-preserved : goal.loop-i-preserved
 loop-i-preserved c =
     elim c.if-i-gt0.branch [
-      then-i-gt0 w ↦ gains_same (commas_next c.args.ns.now c.loop-i.i (omega arith) (omega arith)) (then (omega arith) c.loop-i.invariant (then (omega arith) w.put.ensures (rw w.self-is at c.put_number.ensures)))
+      | then-i-gt0 w ↦ gains_same (commas_next c.args.ns.now c.loop-i.i (omega arith) (omega arith)) (then (omega arith) c.loop-i.invariant (then (omega arith) w.put.ensures (rw w.self-is at c.put_number.ensures)))
       | else-i-gt0 w ↦ gains_same (commas_first c.args.ns.now c.loop-i.i (omega arith) (omega arith)) (then (omega arith) c.loop-i.invariant (rw w.self-is at c.put_number.ensures))
     ]
 
