@@ -1,15 +1,13 @@
 // A line, written.
-ghost use Rattle.text.specs.Puts.{Put};
+ghost use Rattle.text.specs.Pages.{Gains};
 ghost use Rattle.lines.specs.Written.{line as line_of};
 
 use super::keys::Key;
-use text::{put, put_list};
+use text::Page;
 
-// The line into the buffer from the place `at` on, if it has room; answers the place behind it.
-pub fn put_line(buf: &mut [u8], at: usize, key: Key, ns: &[u16]) -> usize
-    ensures { Put buf.old at (line_of key ns.now) buf.new result }
+// The line, put on the page.
+pub fn put_line(page: &mut Page, key: Key, ns: &[u16])
+    ensures { Gains page.old (line_of key ns.now) page.new }
 {
-    let end = put(buf, at, key.text());
-    let end = put_list(buf, end, ns);
-    put(buf, end, b"\n")
+    page.put_line(key.text(), ns);
 }

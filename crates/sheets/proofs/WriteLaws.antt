@@ -1,29 +1,27 @@
--- Records written one after another, and a sheet written whole.
-use Rattle.std.proofs.Common.{◌≡◌, ℕ, ◌+◌, ◌-◌, ◌^◌, ◌<◌, ◌≤◌, min, List, [], ◌∷◌, ◌++◌, map, length, get_or, take, Ok, Err, Result, sym, ap, ◌∙◌, ap₂, append_assoc, append-nil, zero-add, arith}
-use Rattle.std.proofs.lemmas.List.{map_more}
-use Rattle.std.proofs.lemmas.Bool.{le-leb, lt-leb}
-use Rattle.text.specs.Puts.{Put}
-use Rattle.sheets.specs.declared.refusals.WriteRefusal.{WriteRefusal}
-use Rattle.sheets.specs.declared.refusals.WriteRefusal.TheVariants.{BufferTooShort}
-use Rattle.sheets.specs.Written.{written_each, writing}
+-- Records and lines of one number, put on a page.
+use Rattle.std.proofs.Common.{◌≡◌, ℕ, List, [], ◌∷◌, ◌++◌, map, length, flat_map, refl, sym, ap, ◌∙◌}
+use Rattle.std.proofs.lemmas.List.{length-map}
+use Rattle.text.specs.declared.writing.Page.{Page}
+use Rattle.text.specs.Pages.{Gains}
+use Rattle.text.proofs.PageLaws.{gains_same}
+use Rattle.lines.specs.declared.keys.Key.{Key}
+use Rattle.lines.specs.Written.{line}
+use Rattle.sheets.specs.Written.{written_each}
 
-module _ {A T : Type 0} (bytes : A → List ℕ) (view : T → A) where
-  each_push : (xs : List A) (x : A) → written_each bytes (xs ++ x ∷ []) ≡ written_each bytes xs ++ bytes x
-  each_push [] x = append-nil (bytes x)
-  each_push (y ∷ xs) x = ap (λ l. bytes y ++ l) (each_push xs x) ∙ sym (append_assoc (bytes y) (written_each bytes xs) (bytes x))
+each_viewed : {A T : Type 0} (bytes : A → List ℕ) (view : T → A) (all : List T) → flat_map (λ t. bytes (view t)) all ≡ written_each bytes (map view all)
+each_viewed bytes view [] = refl
+each_viewed bytes view (t ∷ all) = ap (λ l. bytes (view t) ++ l) (each_viewed bytes view all)
 
-  -- one record more
-  pub each_more : (all : List T) (i : ℕ) (t : T) → i < length all → t ≡ get_or all i t → written_each bytes (map view (take i all)) ++ bytes (view t) ≡ written_each bytes (map view (take (i + 1) all))
-  each_more all i t l e =
-      sym (ap (λ ts. written_each bytes ts) (map_more view all i t l) ∙ each_push (map view (take i all)) (view (get_or all i t)) ∙ ap (λ x. written_each bytes (map view (take i all)) ++ bytes (view x)) (sym e))
+module _ {p q : Page} where
+  -- a line of one number, which another name has too
+  pub number_line : (k : Key) {n m : ℕ} → n ≡ m → Gains p (line k (n ∷ [])) q → Gains p (line k (m ∷ [])) q
+  number_line k same = gains_same (ap (λ x. line k (x ∷ [])) same)
 
--- the buffer was long enough
-pub written_ok : (s d e : List ℕ) (n r : ℕ) → n ≤ length d → length d < 2 ^ 63 → n ≡ min (0 + length s) (2 ^ 64 - 1) → Put d 0 s e r → ◌≡◌ {A = Result ℕ WriteRefusal × List ℕ} (Ok r, e) (writing s d)
-written_ok s d e n r l small is h =
-    let room : length s ≤ length d = omega arith in
-    let end : r ≡ length s = omega (arith, h.end) in
-    rw (le-leb (length s) (length d) room) (ap₂ (λ x y. (Ok x, y)) end (h.written (omega arith) ∙ simp zero-add))
+  module _ {A T : Type 0} (view : T → A) (all : List T) (xs : List A) (same : map view all ≡ xs) where
+    -- how many records there are
+    pub count_line : (k : Key) → Gains p (line k (length all ∷ [])) q → Gains p (line k (length xs ∷ [])) q
+    count_line k = number_line k (sym (length-map all view) ∙ ap length same)
 
--- the buffer was too short
-pub written_not : (s d : List ℕ) (n : ℕ) → length d < n → n ≡ min (0 + length s) (2 ^ 64 - 1) → ◌≡◌ {A = Result ℕ WriteRefusal × List ℕ} (Err BufferTooShort, d) (writing s d)
-written_not s d n l is = rw (lt-leb (length s) (length d) (omega arith))
+    -- the records
+    pub records : (bytes : A → List ℕ) → Gains p (flat_map (λ t. bytes (view t)) all) q → Gains p (written_each bytes xs) q
+    records bytes = gains_same (each_viewed bytes view all ∙ ap (written_each bytes) same)

@@ -18,3 +18,4 @@ pub use records::{Lane, Teacher};
 pub use refusals::{WishRefusal, WriteRefusal};
 pub use sheets::Sheets;
 pub use wishes::wishes_ok;
+pub use writes::write_whole;

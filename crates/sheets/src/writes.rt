@@ -1,65 +1,78 @@
-// The two sheets, written into a lent buffer.
-ghost use Rattle.std.specs.Prelude.{◌≤◌, map, length};
-ghost use Rattle.text.specs.Puts.{Put};
+// The two sheets and their records as texts, and a text written whole into a lent buffer.
+ghost use Rattle.std.specs.Prelude.{◌≡◌};
+ghost use Rattle.sheets.specs.Held.{model_of};
 ghost use Rattle.sheets.specs.Model.{lane_record, teacher_record};
-ghost use Rattle.sheets.specs.Tables.{posts_model};
-ghost use Rattle.sheets.specs.Written.{written_each, lane_bytes, teacher_bytes, posts_bytes, staff_bytes};
+ghost use Rattle.sheets.specs.Written.{lane_bytes, teacher_bytes, posts_bytes, staff_bytes, writing};
 
 use super::records::{Lane, Teacher};
+use super::refusals::WriteRefusal;
+use super::sheets::Sheets;
 use lines::{Key, put_line};
+use text::{Page, Text};
 
-fn put_lane(buf: &mut [u8], at: usize, l: &Lane) -> usize
-    ensures { Put buf.old at (lane_bytes (lane_record l.now)) buf.new result }
+// Writes the text into the buffer, and answers its length. A short buffer is left as it is.
+pub fn write_whole<T: Text>(text: &T, buf: &mut [u8]) -> Result<usize, WriteRefusal>
+    ensures { (result, buf.new) ≡ writing (T.bytes text.now) buf.old }
 {
-    let list = put_line(buf, at, Key::Lane, &[l.school, l.subject, l.size]);
-    put_line(buf, list, Key::List, l.list.as_slice())
-}
-
-fn put_lanes(buf: &mut [u8], at: usize, all: &[Lane]) -> usize
-    ensures { Put buf.old at (written_each lane_bytes (map lane_record all.now)) buf.new result }
-{
-    let mut end = at;
-    for i in 0..all.len() {
-        end = put_lane(buf, end, &all[i]);
+    let mut measure = Page::new(&mut [], 0);
+    text.put_on(&mut measure);
+    let size = measure.at();
+    if size > buf.len() {
+        return Err(WriteRefusal::BufferTooShort);
     }
-    end
+    let mut page = Page::new(buf, 0);
+    text.put_on(&mut page);
+    Ok(size)
 }
 
-pub(crate) fn put_posts(buf: &mut [u8], schools: u16, subjects: u16, all: &[Lane]) -> usize
-    requires { length all.now ≤ 80 }
-    ensures { Put buf.old 0 (posts_bytes (posts_model schools subjects all.now)) buf.new result }
-{
-    let subject_line = put_line(buf, 0, Key::Schools, &[schools]);
-    let lane_count = put_line(buf, subject_line, Key::Subjects, &[subjects]);
-    let first_lane = put_line(buf, lane_count, Key::Lanes, &[all.len() as u16]);
-    put_lanes(buf, first_lane, all)
-}
+impl Text for Lane {
+    ghost bytes = { λ l. lane_bytes (lane_record l) };
 
-fn put_teacher(buf: &mut [u8], at: usize, t: &Teacher) -> usize
-    ensures { Put buf.old at (teacher_bytes (teacher_record t.now)) buf.new result }
-{
-    let main = put_line(buf, at, Key::Home, &[t.home]);
-    let also = put_line(buf, main, Key::Main, &[t.main]);
-    let wish = put_line(buf, also, Key::Also, t.also.as_slice());
-    let points = put_line(buf, wish, Key::Wish, t.wish.as_slice());
-    let cost = put_line(buf, points, Key::Points, &[t.points]);
-    put_line(buf, cost, Key::Cost, &[t.cost])
-}
-
-fn put_teachers(buf: &mut [u8], at: usize, all: &[Teacher]) -> usize
-    ensures { Put buf.old at (written_each teacher_bytes (map teacher_record all.now)) buf.new result }
-{
-    let mut end = at;
-    for i in 0..all.len() {
-        end = put_teacher(buf, end, &all[i]);
+    fn put_on(&self, page: &mut Page) {
+        put_line(page, Key::Lane, &[self.school, self.subject, self.size]);
+        put_line(page, Key::List, self.list.as_slice());
     }
-    end
 }
 
-pub(crate) fn put_staff(buf: &mut [u8], all: &[Teacher]) -> usize
-    requires { length all.now ≤ 200 }
-    ensures { Put buf.old 0 (staff_bytes (map teacher_record all.now)) buf.new result }
-{
-    let first_teacher = put_line(buf, 0, Key::Teachers, &[all.len() as u16]);
-    put_teachers(buf, first_teacher, all)
+impl Text for Teacher {
+    ghost bytes = { λ t. teacher_bytes (teacher_record t) };
+
+    fn put_on(&self, page: &mut Page) {
+        put_line(page, Key::Home, &[self.home]);
+        put_line(page, Key::Main, &[self.main]);
+        put_line(page, Key::Also, self.also.as_slice());
+        put_line(page, Key::Wish, self.wish.as_slice());
+        put_line(page, Key::Points, &[self.points]);
+        put_line(page, Key::Cost, &[self.cost]);
+    }
+}
+
+// The posts sheet of the sheets.
+#[derive(Drop)]
+pub(crate) struct PostsSheet<'a>(pub(crate) &'a Sheets);
+
+impl Text for PostsSheet<'_> {
+    ghost bytes = { λ s. posts_bytes (model_of s.0.now).posts };
+
+    fn put_on(&self, page: &mut Page) {
+        let lanes = self.0.lanes();
+        put_line(page, Key::Schools, &[self.0.schools()]);
+        put_line(page, Key::Subjects, &[self.0.subjects()]);
+        put_line(page, Key::Lanes, &[lanes.len() as u16]);
+        page.put_each(lanes);
+    }
+}
+
+// The staff sheet of the sheets.
+#[derive(Drop)]
+pub(crate) struct StaffSheet<'a>(pub(crate) &'a Sheets);
+
+impl Text for StaffSheet<'_> {
+    ghost bytes = { λ s. staff_bytes (model_of s.0.now).teachers };
+
+    fn put_on(&self, page: &mut Page) {
+        let teachers = self.0.teachers();
+        put_line(page, Key::Teachers, &[teachers.len() as u16]);
+        page.put_each(teachers);
+    }
 }

@@ -1,20 +1,8 @@
 -- Bytes written into a buffer, one after another.
-use Rattle.std.proofs.Common.{◌≡◌, ℕ, zero, suc, ◌+◌, ◌-◌, ◌^◌, ◌<◌, ◌≤◌, min, List, [], ◌∷◌, ◌++◌, length, get_or, take, drop, decimal, sym, refl, ap, ◌∙◌, subst, ap₂, append_assoc, add-zero, arith, length-append, length-drop, take-append-drop, length-take}
-use borrow.Rule.Slice.PartMut.{put_mid}
+use Rattle.std.proofs.Common.{◌≡◌, ℕ, zero, suc, ◌+◌, ◌^◌, ◌<◌, ◌≤◌, List, [], ◌∷◌, ◌++◌, length, get_or, take, drop, decimal, sym, refl, ap, ◌∙◌, ap₂, append_assoc, add-zero, arith, length-append, take-append-drop}
 use Rattle.std.proofs.lemmas.List.{drop-drop, take_at, drop_at, length-take-le, take_more}
 use Rattle.text.specs.Commas.{commas}
-use Rattle.text.specs.Puts.{put, Put, entry}
-
--- after a copy into a part of the buffer
-pub put_part : (d : List ℕ) (at : ℕ) (s ys : List ℕ) (e : ℕ) → ys ≡ s → e ≡ min (at + length s) (2 ^ 64 - 1) → e ≤ length d → length d < 2 ^ 63 → Put d at s (put_mid at (e - at) d ys) e
-put_part d at s ys e same end l small =
-    let n : e - at ≡ length s = omega arith in
-    let m : at + (e - at) ≡ at + length s = omega arith in
-    record {
-      end = end;
-      long = rw same (simp (length-append, length-take, length-drop) (omega arith));
-      written = λ h. ap (λ r. take at d ++ r) (ap₂ (λ x y. x ++ y) same (drop-drop (e - at) at d ∙ ap (λ k. drop k d) m));
-    }
+use Rattle.text.specs.Puts.{put, Put}
 
 pub put_none : (d : List ℕ) (at : ℕ) → at < 2 ^ 64 → Put d at [] d at
 put_none d at l = record { end = omega arith; long = refl; written = λ h. rw add-zero (sym (take-append-drop at d)) }
@@ -52,21 +40,33 @@ then {d} {at} {s} {e} {q} {t} {f} {r} small a b = record {
       b.written more ∙ ap₂ (λ x k. put x k t) (a.written room) is ∙ put_put d at s t room;
 }
 
-pub put_at : {d : List ℕ} {at : ℕ} {s s' e : List ℕ} {q : ℕ} → s ≡ s' → Put d at s e q → Put d at s' e q
-put_at {d} {at} {s} {s'} {e} {q} same h = subst (λ x. Put d at x e q) same h
+-- the i-th number of a list, counted from 0, with the comma before it
+abbrev entry : ℕ → ℕ → List ℕ
+entry zero n = decimal n
+entry (suc i) n = 44 ∷ decimal n
 
 commas_push : (xs : List ℕ) (x : ℕ) → commas (xs ++ x ∷ []) ≡ commas xs ++ entry (length xs) x
 commas_push [] x = refl
 commas_push (y ∷ []) x = refl
 commas_push (y ∷ z ∷ ys) x = ap (λ l. decimal y ++ (44 ∷ l)) (commas_push (z ∷ ys) x) ∙ sym (append_assoc (decimal y) (44 ∷ commas (z ∷ ys)) (44 ∷ decimal x))
 
-pub commas_more : (ns : List ℕ) (i : ℕ) → i < length ns → commas (take i ns) ++ entry i (get_or ns i 0) ≡ commas (take (i + 1) ns)
-commas_more ns i l =
-    sym (ap commas (take_more ns i 0 l) ∙ commas_push (take i ns) (get_or ns i 0) ∙ ap (λ k. commas (take i ns) ++ entry k (get_or ns i 0)) (length-take-le i ns (omega arith)))
+-- one number more
+module _ (ns : List ℕ) (i : ℕ) (l : i < length ns) where
+  more : (b : List ℕ) → b ≡ entry i (get_or ns i 0) → commas (take i ns) ++ b ≡ commas (take (i + 1) ns)
+  more b e =
+      ap (λ x. commas (take i ns) ++ x) e
+      ∙ sym (ap commas (take_more ns i 0 l) ∙ commas_push (take i ns) (get_or ns i 0) ∙ ap (λ k. commas (take i ns) ++ entry k (get_or ns i 0)) (length-take-le i ns (omega arith)))
 
-pub first_entry : (i n : ℕ) → i ≡ 0 → decimal n ≡ entry i n
-first_entry i n e = rw e
+  pub commas_first : i ≤ 0 → commas (take i ns) ++ decimal (get_or ns i 0) ≡ commas (take (i + 1) ns)
+  commas_first h = more _ (first i h)
+    where
+      first : (j : ℕ) → j ≤ 0 → decimal (get_or ns i 0) ≡ entry j (get_or ns i 0)
+      first zero k = refl
+      first (suc j) k = absurd (omega arith)
 
-pub later_entry : (i n : ℕ) → (i ≡ 0 → ⊥) → (44 ∷ []) ++ decimal n ≡ entry i n
-later_entry zero n h = absurd (h refl)
-later_entry (suc i) n h = refl
+  pub commas_next : 0 < i → commas (take i ns) ++ ((44 ∷ []) ++ decimal (get_or ns i 0)) ≡ commas (take (i + 1) ns)
+  commas_next h = more _ (later i h)
+    where
+      later : (j : ℕ) → 0 < j → 44 ∷ decimal (get_or ns i 0) ≡ entry j (get_or ns i 0)
+      later zero k = absurd (omega arith)
+      later (suc j) k = refl

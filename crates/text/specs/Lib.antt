@@ -1,3 +1,4 @@
 pub mod Number
 pub mod Commas
 pub mod Puts
+pub mod Pages

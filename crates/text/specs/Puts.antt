@@ -1,5 +1,5 @@
 -- Bytes written into a lent buffer. Assumes nothing.
-use Rattle.std.specs.Prelude.{◌≡◌, ℕ, zero, suc, ◌+◌, ◌-◌, ◌^◌, ◌≤◌, min, List, ◌∷◌, ◌++◌, length, take, drop, decimal}
+use Rattle.std.specs.Prelude.{◌≡◌, ℕ, ◌+◌, ◌-◌, ◌^◌, ◌≤◌, min, List, ◌++◌, length, take, drop}
 
 -- the buffer d with s in it from `at` on
 abbrev pub put : List ℕ → ℕ → List ℕ → List ℕ
@@ -11,8 +11,3 @@ pub record Put (d : List ℕ) (at : ℕ) (s : List ℕ) (e : List ℕ) (r : ℕ)
   pub end : r ≡ min (at + length s) (2 ^ 64 - 1)
   pub long : length e ≡ length d
   pub written : at + length s ≤ length d → e ≡ put d at s
-
--- the i-th number of a list, counted from 0, with the comma before it
-abbrev pub entry : ℕ → ℕ → List ℕ
-entry zero n = decimal n
-entry (suc i) n = 44 ∷ decimal n

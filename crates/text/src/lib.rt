@@ -5,4 +5,4 @@ mod reading;
 mod writing;
 
 pub use reading::{position_of, read_list, read_number};
-pub use writing::{put, put_list, put_number};
+pub use writing::{Page, Text};

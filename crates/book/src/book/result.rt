@@ -1,33 +1,32 @@
 // The result sheet.
-ghost use Rattle.std.specs.Prelude.{◌≡◌, ◌≤◌};
+ghost use Rattle.std.specs.Prelude.{◌≡◌};
 ghost use Rattle.bounded.specs.Listed.{listed};
 ghost use Rattle.sheets.specs.Written.{writing};
-ghost use Rattle.text.specs.Puts.{Put};
 ghost use Rattle.book.specs.Held.{book_model};
 ghost use Rattle.book.specs.Model.{offer_in};
-ghost use Rattle.book.specs.Result.{seat as seat_of, raises as raises_of, seats as seats_of, result_line, result_bytes, result_sheet};
+ghost use Rattle.book.specs.Result.{seat as seat_of, raises as raises_of, seats as seats_of, result_bytes, result_sheet};
 
 use super::Book;
 use bounded::BoundedList;
-use sheets::WriteRefusal;
-use text::{put, put_list};
+use sheets::{WriteRefusal, write_whole};
+use text::{Page, Text};
 
-// A line of the result sheet into the buffer from the place `at` on, if it has room; answers the place behind it.
-fn put_result_line(buf: &mut [u8], at: usize, key: &[u8], ns: &[u16]) -> usize
-    ensures { Put buf.old at (result_line key.now ns.now) buf.new result }
-{
-    let end = put(buf, at, key);
-    let end = put_list(buf, end, ns);
-    put(buf, end, b"\n")
+// The numbers of a result sheet.
+#[derive(Drop)]
+struct ResultSheet<'a> {
+    raises: u16,
+    cuts: &'a [u16],
+    seats: &'a [u16],
 }
 
-// The three lines.
-fn put_result(buf: &mut [u8], raises: u16, cuts: &[u16], seats: &[u16]) -> usize
-    ensures { Put buf.old 0 (result_bytes raises cuts.now seats.now) buf.new result }
-{
-    let cut_line = put_result_line(buf, 0, b"raises=", &[raises]);
-    let seat_line = put_result_line(buf, cut_line, b"cut=", cuts);
-    put_result_line(buf, seat_line, b"seat=", seats)
+impl Text for ResultSheet<'_> {
+    ghost bytes = { λ s. result_bytes s.raises s.cuts.now s.seats.now };
+
+    fn put_on(&self, page: &mut Page) {
+        page.put_line(b"raises=", &[self.raises]);
+        page.put_line(b"cut=", self.cuts);
+        page.put_line(b"seat=", self.seats);
+    }
 }
 
 impl Book {
@@ -71,18 +70,12 @@ impl Book {
         if self.sheets.schools() == 0 {
             return Ok(0);
         }
-        let raises = self.raises();
         let seats = self.seats();
-        let mut no_room: [u8; 0] = [];
-        let size = put_result(
-            &mut no_room,
-            raises,
-            self.cutoffs.as_slice(),
-            seats.as_slice(),
-        );
-        if size > buf.len() {
-            return Err(WriteRefusal::BufferTooShort);
-        }
-        Ok(put_result(buf, raises, self.cutoffs.as_slice(), seats.as_slice()))
+        let sheet = ResultSheet {
+            raises: self.raises(),
+            cuts: self.cutoffs.as_slice(),
+            seats: seats.as_slice(),
+        };
+        write_whole(&sheet, buf)
     }
 }

@@ -13,7 +13,7 @@ use super::super::records::{Counts, Lane, Teacher};
 use super::super::refusals::{WishRefusal, WriteRefusal};
 use super::super::staff::read_staff;
 use super::super::wishes::wishes_ok;
-use super::super::writes::{put_posts, put_staff};
+use super::super::writes::{PostsSheet, StaffSheet, write_whole};
 use super::Sheets;
 use bounded::BoundedList;
 use lines::Fault;
@@ -92,17 +92,7 @@ impl Sheets {
         if self.schools == 0 {
             return Ok(0);
         }
-        let mut no_room: [u8; 0] = [];
-        let size = put_posts(
-            &mut no_room,
-            self.schools,
-            self.subjects,
-            self.lanes.as_slice(),
-        );
-        if size > buf.len() {
-            return Err(WriteRefusal::BufferTooShort);
-        }
-        Ok(put_posts(buf, self.schools, self.subjects, self.lanes.as_slice()))
+        write_whole(&PostsSheet(self), buf)
     }
 
     // Writes the staff sheet in the same way.
@@ -112,12 +102,7 @@ impl Sheets {
         if self.schools == 0 {
             return Ok(0);
         }
-        let mut no_room: [u8; 0] = [];
-        let size = put_staff(&mut no_room, self.teachers.as_slice());
-        if size > buf.len() {
-            return Err(WriteRefusal::BufferTooShort);
-        }
-        Ok(put_staff(buf, self.teachers.as_slice()))
+        write_whole(&StaffSheet(self), buf)
     }
 
     // Gives the teacher at the index another wish list. Where there is no such teacher, or the list is not acceptable, nothing changes.
