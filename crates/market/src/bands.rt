@@ -5,6 +5,7 @@ ghost use Rattle.market.specs.Tables.{person, teaches as teaches_of, band_of, ba
 
 use lines::holds;
 use sheets::Teacher;
+use std::array;
 
 // Is the teacher licensed for lanes of the subject?
 fn teaches(p: &Teacher, subject: u16) -> bool
@@ -17,10 +18,11 @@ fn teaches(p: &Teacher, subject: u16) -> bool
 fn band(p: &Teacher, subject: u16) -> u8
     ensures { result ≡ band_of (person (teacher_record p.now)) subject }
 {
-    if p.home == 0 {
-        if p.main == subject { 3 } else { 4 }
-    } else {
-        if p.main == subject { 1 } else { 2 }
+    match (p.home == 0, p.main == subject) {
+        (false, true) => 1,
+        (false, false) => 2,
+        (true, true) => 3,
+        (true, false) => 4,
     }
 }
 
@@ -39,14 +41,5 @@ fn band_in(p: &Teacher, subject: u16) -> u8
 pub fn bands_of(teachers: &[Teacher], subject: u16) -> [u8; 200]
     ensures { length teachers.now ≤ 200 → take (length teachers.now) result ≡ map (band_in subject) (map person (map teacher_record teachers.now)) }
 {
-    let mut bands = [0u8; 200];
-    let n = if teachers.len() < 200 {
-        teachers.len()
-    } else {
-        200
-    };
-    for t in 0..n {
-        bands[t] = band_in(&teachers[t], subject);
-    }
-    bands
+    array::from_fn(|t| teachers.get(t).map_or(0, |teacher| band_in(teacher, subject)))
 }
