@@ -17,7 +17,7 @@ module _ {F B : Type 0} (g : Mut F (ℕ × Unit {0}) B) (f : F) (P : ℕ → B �
       ]
 
 -- as many as the items of a list, each made of its item
-pub front_is_map : {X : Type 0} (f : X → ℕ) (xs : List X) (ys : List ℕ) → length xs ≤ length ys → ((j : ℕ) → j < length ys → MatchOption (slice_get xs j) (Unit {0}) (λ x. get_or ys j 0 ≡ f x))
+pub front_is_map : {X : Type 0} (f : X → ℕ) (xs : List X) (ys : List ℕ) → length xs ≤ length ys → ((j : ℕ) → j < length ys → MatchOption (slice_get xs j) (get_or ys j 0 ≡ 0) (λ x. get_or ys j 0 ≡ f x))
     → take (length xs) ys ≡ map f xs
 front_is_map f [] ys l h = refl
 front_is_map f (x ∷ xs) [] l h = absurd (omega arith)

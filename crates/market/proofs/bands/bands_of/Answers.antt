@@ -10,7 +10,7 @@ pub returns : goal.returns
 returns c = λ few.
     let f : Teacher → ℕ = λ x. band_in c.args.subject (person (teacher_record x)) in
     let ts = c.args.teachers.now in
-    let P : ℕ → ℕ → Type 0 = λ j y. MatchOption (slice_get ts j) (Unit {0}) (λ x. y ≡ f x) in
+    let P : ℕ → ℕ → Type 0 = λ j y. MatchOption (slice_get ts j) (y ≡ 0) (λ x. y ≡ f x) in
     front_is_map f ts c.from_fn.result (omega (arith, c.from_fn.ensures.items.long))
     (λ j k. filled_at _ _ P (λ i y q e. (search rules, search rules)) c.from_fn.result 0 200 c.from_fn.ensures.items.each j 0 (omega arith) (omega (arith, c.from_fn.ensures.items.long)))
     ∙ sym (map_thrice teacher_record person (band_in c.args.subject) ts)
