@@ -48,38 +48,36 @@ unnamed_more f w k =
     one true = gather_none f
     one false = gather_one f (k + 1)
 
-pub map_thrice : {A B C D : Type 0} (f : A → B) (g : B → C) (h : C → D) (xs : List A) → map h (map g (map f xs)) ≡ map (λ x. h (g (f x))) xs
-map_thrice f g h [] = refl
-map_thrice f g h (x ∷ xs) = ap (λ l. h (g (f x)) ∷ l) (map_thrice f g h xs)
-
 -- the lane of the main subject, then the others
 pub at_school_is : (ls : List LaneRecord) (p : Person) (s : ℕ) (start xs ys : List ℕ)
     → xs ≡ take 80 (start ++ passing (main_at p s) ls) → ys ≡ take 80 (xs ++ passing (also_at p s) ls) → ys ≡ take 80 (start ++ at_school ls p s)
 unfolding at_school
 at_school_is ls p s start xs ys e f = more_front 80 start (passing (main_at p s) ls) (passing (also_at p s) ls) xs ys e f
 
--- ---- a school's lanes that pass a test
+-- ---- the lanes that pass a test
+
+-- the first n of them
+abbrev pub passing_below : (LaneRecord → Bool) → List Lane → ℕ → List ℕ
+passing_below test ls n = keep_to (λ i. test (get_or (map lane_record ls) i no_lane)) n
 
 module _ (test : LaneRecord → Bool) (ls : List Lane) where
-  pub passing_start : (xs : List ℕ) → length xs ≤ 80 → xs ≡ take 80 (xs ++ keep_to (λ i. test (get_or (map lane_record ls) i no_lane)) 0)
-  passing_start xs h = same_front 80 xs h ∙ ap (λ l. take 80 (xs ++ l)) (sym (join_start (λ i. cond (test (get_or (map lane_record ls) i no_lane)) (i ∷ []) [])))
+  pub passing_start : (start : List ℕ) → length start ≤ 80 → start ≡ take 80 (start ++ passing_below test ls 0)
+  passing_start start h = same_front 80 start h ∙ ap (λ l. take 80 (start ++ l)) (sym (join_start (λ i. cond (test (get_or (map lane_record ls) i no_lane)) (i ∷ []) [])))
 
   -- one lane more
-  pub passing_more : (start xs ys : List ℕ) (i : ℕ) (lane : Lane) → i < length ls → lane ≡ get_or ls i lane
-      → xs ≡ take 80 (start ++ keep_to (λ i. test (get_or (map lane_record ls) i no_lane)) i) → ys ≡ take 80 (xs ++ cond (test (lane_record lane)) (i ∷ []) [])
-      → ys ≡ take 80 (start ++ keep_to (λ i. test (get_or (map lane_record ls) i no_lane)) (i + 1))
+  pub passing_more : (start xs ys : List ℕ) (i : ℕ) (lane : Lane) → i < length ls → lane ≡ get_or ls i lane → xs ≡ take 80 (start ++ passing_below test ls i)
+      → ys ≡ take 80 (xs ++ cond (test (lane_record lane)) (i ∷ []) []) → ys ≡ take 80 (start ++ passing_below test ls (i + 1))
   passing_more start xs ys i lane h is e f =
       more_front 80 start (join_to piece i) (piece i) xs ys e (f ∙ ap (λ r. take 80 (xs ++ cond (test r) (i ∷ []) [])) (sym read)) ∙ ap (λ l. take 80 (start ++ l)) (sym (join_next piece i))
     where
       piece : ℕ → List ℕ
-      piece = λ i. cond (test (get_or (map lane_record ls) i no_lane)) (i ∷ []) []
+      piece = λ j. cond (test (get_or (map lane_record ls) j no_lane)) (j ∷ []) []
 
       read : get_or (map lane_record ls) i no_lane ≡ lane_record lane
       read = get_or-map lane_record ls i lane no_lane h ∙ ap lane_record (sym is)
 
-  pub passing_all : (all : List LaneRecord) (n : ℕ) → map lane_record ls ≡ all → n ≡ length ls → keep_to (λ i. test (get_or (map lane_record ls) i no_lane)) n ≡ passing test all
-  passing_all all n e k =
-      ap (λ j. keep_to (λ i. test (get_or (map lane_record ls) i no_lane)) j) (k ∙ sym (length-map ls lane_record)) ∙ ap (passing test) e
+  pub passing_all : (all : List LaneRecord) (n : ℕ) → map lane_record ls ≡ all → n ≡ length ls → passing_below test ls n ≡ passing test all
+  passing_all all n e k = ap (passing_below test ls) (k ∙ sym (length-map ls lane_record)) ∙ ap (passing test) e
 
 -- ---- what is added under a condition
 

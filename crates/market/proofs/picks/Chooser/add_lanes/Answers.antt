@@ -2,7 +2,7 @@ use Rattle.std.proofs.Common.{◌≡◌, refl, [], ◌∷◌, ◌++◌, take, sy
 use Rattle.bounded.specs.Listed.{listed}
 use Rattle.bounded.proofs.Fronts.{same_front, push_front}
 use Rattle.bounded.proofs.Lengths.{listed_within}
-use Rattle.sheets.specs.Model.{LaneRecord, lane_record}
+use Rattle.sheets.specs.Model.{lane_record}
 use Rattle.market.proofs.Appending.{passing_start, passing_more, passing_all, added_if, added_else}
 use Rattle.market.proofs.picks.Chooser.add_lanes.Goals.{then-passes, else-passes}
 use Rattle.market.proofs.picks.Chooser.add_lanes.Goals as goal

@@ -1,6 +1,5 @@
 use Rattle.std.proofs.Common.{rules}
 use Rattle.bounded.specs.Listed.{listed}
-use Rattle.sheets.specs.Model.{lane_record}
 use Rattle.market.specs.Choosing.{lanes_of, person_of}
 use Rattle.market.specs.Tables.{main_at, also_at}
 use Rattle.market.proofs.Appending.{at_school_is}
