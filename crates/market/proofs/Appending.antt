@@ -2,7 +2,10 @@
 use Rattle.std.proofs.Common.{◌≡◌, ℕ, ◌+◌, ◌<◌, ◌≤◌, Bool, true, false, cond, List, [], ◌∷◌, ◌++◌, map, length, get_or, take, sym, refl, ap, ◌∙◌, append_assoc, append-nil, add-one}
 use Rattle.std.proofs.lemmas.List.{take_more, length-map, get_or-map}
 use Rattle.std.proofs.lemmas.Bool.{cond-true, cond-false, eq-eqb, ne_eqb}
+use Rattle.bounded.specs.declared.list.BoundedList.{BoundedList}
+use Rattle.bounded.specs.Listed.{listed}
 use Rattle.bounded.proofs.Fronts.{same_front, more_front}
+use Rattle.bounded.proofs.Lengths.{listed_within}
 use Rattle.lines.specs.Entries.{has}
 use Rattle.market.specs.Lists.{join_to, keep_to, gather}
 use Rattle.market.specs.Choosing.{passing}
@@ -54,6 +57,10 @@ pub at_school_is : (ls : List LaneRecord) (p : Person) (s : ℕ) (start xs ys : 
 unfolding at_school
 at_school_is ls p s start xs ys e f = more_front 80 start (passing (main_at p s) ls) (passing (also_at p s) ls) xs ys e f
 
+-- nothing more
+pub same : (out : BoundedList 80) → listed out ≡ take 80 (listed out ++ [])
+same out = same_front 80 (listed out) (listed_within out)
+
 -- ---- the lanes that pass a test
 
 -- the first n of them
@@ -61,8 +68,8 @@ abbrev pub passing_below : (LaneRecord → Bool) → List Lane → ℕ → List 
 passing_below test ls n = keep_to (λ i. test (get_or (map lane_record ls) i no_lane)) n
 
 module _ (test : LaneRecord → Bool) (ls : List Lane) where
-  pub passing_start : (start : List ℕ) → length start ≤ 80 → start ≡ take 80 (start ++ passing_below test ls 0)
-  passing_start start h = same_front 80 start h ∙ ap (λ l. take 80 (start ++ l)) (sym (join_start (λ i. cond (test (get_or (map lane_record ls) i no_lane)) (i ∷ []) [])))
+  pub passing_start : (out : BoundedList 80) → listed out ≡ take 80 (listed out ++ passing_below test ls 0)
+  passing_start out = same out ∙ ap (λ l. take 80 (listed out ++ l)) (sym (join_start (λ i. cond (test (get_or (map lane_record ls) i no_lane)) (i ∷ []) [])))
 
   -- one lane more
   pub passing_more : (start xs ys : List ℕ) (i : ℕ) (lane : Lane) → i < length ls → lane ≡ get_or ls i lane → xs ≡ take 80 (start ++ passing_below test ls i)
@@ -89,20 +96,20 @@ added_else b xs ys zs us e f = f ∙ ap (λ l. take 80 (xs ++ l)) (sym (cond-fal
 
 -- ---- what the schools give, one after the other
 
-module _ (f : ℕ → List ℕ) (w start : List ℕ) where
-  pub wished_start : length start ≤ 80 → start ≡ take 80 (start ++ gather f [])
-  wished_start h = same_front 80 start h ∙ ap (λ l. take 80 (start ++ l)) (sym (gather_none f))
+pub wished_start : (f : ℕ → List ℕ) (out : BoundedList 80) → listed out ≡ take 80 (listed out ++ gather f [])
+wished_start f out = same out ∙ ap (λ l. take 80 (listed out ++ l)) (sym (gather_none f))
 
-  pub wished_more : (xs ys : List ℕ) (i : ℕ) → i < length w → xs ≡ take 80 (start ++ gather f (take i w)) → ys ≡ take 80 (xs ++ f (get_or w i 0))
+module _ (f : ℕ → List ℕ) (w : List ℕ) where
+  pub wished_more : (start xs ys : List ℕ) (i : ℕ) → i < length w → xs ≡ take 80 (start ++ gather f (take i w)) → ys ≡ take 80 (xs ++ f (get_or w i 0))
       → ys ≡ take 80 (start ++ gather f (take (i + 1) w))
-  wished_more xs ys i h e g = more_front 80 start (gather f (take i w)) (f (get_or w i 0)) xs ys e g ∙ ap (λ l. take 80 (start ++ l)) (sym (gather_more f w i h))
+  wished_more start xs ys i h e g = more_front 80 start (gather f (take i w)) (f (get_or w i 0)) xs ys e g ∙ ap (λ l. take 80 (start ++ l)) (sym (gather_more f w i h))
 
-  pub unwished_start : length start ≤ 80 → start ≡ take 80 (start ++ gather f (unnamed 0 w))
-  unwished_start h = wished_start h ∙ ap (λ l. take 80 (start ++ gather f l)) (sym (join_start (λ k. cond (has (k + 1) w) [] ((k + 1) ∷ []))))
+  pub unwished_start : (out : BoundedList 80) → listed out ≡ take 80 (listed out ++ gather f (unnamed 0 w))
+  unwished_start out = wished_start f out ∙ ap (λ l. take 80 (listed out ++ gather f l)) (sym (join_start (λ k. cond (has (k + 1) w) [] ((k + 1) ∷ []))))
 
-  pub unwished_more : (xs ys : List ℕ) (k s : ℕ) → k + 1 ≡ s → xs ≡ take 80 (start ++ gather f (unnamed k w)) → ys ≡ take 80 (xs ++ cond (has s w) [] (f s))
+  pub unwished_more : (start xs ys : List ℕ) (k s : ℕ) → k + 1 ≡ s → xs ≡ take 80 (start ++ gather f (unnamed k w)) → ys ≡ take 80 (xs ++ cond (has s w) [] (f s))
       → ys ≡ take 80 (start ++ gather f (unnamed s w))
-  unwished_more xs ys k s n e g =
+  unwished_more start xs ys k s n e g =
       more_front 80 start (gather f (unnamed k w)) (cond (has s w) [] (f s)) xs ys e g
       ∙ ap (λ l. take 80 (start ++ l)) (ap (λ j. gather f (unnamed k w) ++ cond (has j w) [] (f j)) (sym n) ∙ sym (unnamed_more f w k) ∙ ap (λ j. gather f (unnamed j w)) n)
 

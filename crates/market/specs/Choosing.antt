@@ -15,10 +15,11 @@ Answers says test = (lane : Lane) (answer : Bool) → says lane answer → answe
 abbrev pub passing : (LaneRecord → Bool) → List LaneRecord → List ℕ
 passing test ls = keep_to (λ l. test (slice_index_or ls l no_lane)) (length ls)
 
--- the lanes of the round, and what of the teacher stays the same through it
+-- the lanes of the round
 abbrev pub lanes_of : Chooser → List LaneRecord
 lanes_of c = (model_of c.sheets.now).posts.lanes
 
+-- what of the teacher stays the same through the round
 abbrev pub person_of : Chooser → Person
 person_of c = person (teacher_record c.teacher.now)
 

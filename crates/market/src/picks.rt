@@ -59,6 +59,7 @@ impl Chooser<'_> {
     }
 
     // Adds the lanes of the wished schools, in the order of the wishes.
+    #[tactic(auto, using(crate::proofs::Appending::wished_start, crate::proofs::Appending::wished_more))]
     fn add_wished(&self, out: &mut BoundedList<80>)
         ensures { listed out.new ≡ take 80 (listed out.old ++ gather (gives self.now) self.now.wishes.now) }
     {

@@ -1,12 +1,10 @@
 use Rattle.std.proofs.Common.{◌≡◌, ◌+◌, ◌-◌, [], ◌++◌, take, sym, ap, ◌∙◌, arith}
 use Rattle.bounded.specs.Listed.{listed}
-use Rattle.bounded.proofs.Fronts.{same_front}
-use Rattle.bounded.proofs.Lengths.{listed_within}
 use Rattle.lines.specs.Entries.{has}
 use Rattle.market.specs.Choosing.{gives}
 use Rattle.market.specs.Lists.{gather}
 use Rattle.market.specs.Tables.{unnamed}
-use Rattle.market.proofs.Appending.{added_if, added_else, unwished_start, unwished_more}
+use Rattle.market.proofs.Appending.{same, added_if, added_else, unwished_start, unwished_more}
 use Rattle.market.proofs.picks.Chooser.add_unnamed.Goals.{Joined-not-holds, then-not-holds, else-not-holds}
 use Rattle.market.proofs.picks.Chooser.add_unnamed.Goals as goal
 
@@ -21,11 +19,11 @@ more c =
     unwished_more f w (listed c.args.out.now) xs (listed c.if-not-holds.out) (s - 1) s (omega arith) c.loop-school.invariant.0
     (elim c.if-not-holds.branch [
       | then-not-holds t ↦ ap listed t.out-is ∙ added_else (has s w) xs (listed t.add_school.new.out) [] (f s) (sym c.holds.ensures ∙ t.if-not-holds.true) t.add_school.ensures
-      | else-not-holds t ↦ ap listed t.out-is ∙ added_if (has s w) xs xs [] (f s) (sym c.holds.ensures ∙ t.if-not-holds.false) (same_front 80 xs (listed_within c.loop-school.out))
+      | else-not-holds t ↦ ap listed t.out-is ∙ added_if (has s w) xs xs [] (f s) (sym c.holds.ensures ∙ t.if-not-holds.false) (same c.loop-school.out)
     ])
 
 pub loop-school-init : goal.loop-school-init
-loop-school-init c = (unwished_start (gives c.args.self.now) c.args.self.now.wishes.now (listed c.args.out.now) (listed_within c.args.out.now), omega arith)
+loop-school-init c = (unwished_start (gives c.args.self.now) c.args.self.now.wishes.now c.args.out.now, omega arith)
 
 pub loop-school-preserved : goal.loop-school-preserved
 loop-school-preserved c =
