@@ -82,6 +82,7 @@ impl Chooser<'_> {
 
 // The pick list that the wishes give the teacher, each lane by its index. It is whole wherever it has at most 80 lanes, and so for every
 // acceptable wish list.
+#[tactic(auto, using(crate::proofs::Appending::picks_of_newcomer, crate::proofs::Appending::picks_of_incumbent))]
 pub fn pick_list(sheets: &Sheets, p: &Teacher, wishes: &[u16]) -> BoundedList<80>
     ensures { listed result ≡ take 80 (pick_of (model_of sheets.now).posts (person (teacher_record p.now)) wishes.now) }
 {
