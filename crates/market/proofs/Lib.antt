@@ -2,3 +2,4 @@ pub mod Pieces
 pub mod Lawful
 pub mod Short
 pub mod Appending
+pub mod Filling

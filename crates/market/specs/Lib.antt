@@ -1,4 +1,4 @@
 pub mod Lists
 pub mod Tables
 pub mod Described
-pub mod Passing
+pub mod Choosing

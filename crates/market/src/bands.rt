@@ -1,10 +1,11 @@
 // Licences and bands.
-ghost use Rattle.std.specs.Prelude.{◌≡◌, ◌≤◌, map, length, take};
+ghost use Rattle.std.specs.Prelude.{◌≡◌, ◌≤◌, MatchOption, map, length, take, slice_get};
 ghost use Rattle.sheets.specs.Model.{teacher_record};
 ghost use Rattle.market.specs.Tables.{person, teaches as teaches_of, band_of, band_in};
 
 use lines::holds;
 use sheets::Teacher;
+use std::array;
 
 // Is the teacher licensed for lanes of the subject?
 fn teaches(p: &Teacher, subject: u16) -> bool
@@ -17,10 +18,11 @@ fn teaches(p: &Teacher, subject: u16) -> bool
 fn band(p: &Teacher, subject: u16) -> u8
     ensures { result ≡ band_of (person (teacher_record p.now)) subject }
 {
-    if p.home == 0 {
-        if p.main == subject { 3 } else { 4 }
-    } else {
-        if p.main == subject { 1 } else { 2 }
+    match (p.home == 0, p.main == subject) {
+        (false, true) => 1,
+        (false, false) => 2,
+        (true, true) => 3,
+        (true, false) => 4,
     }
 }
 
@@ -35,18 +37,16 @@ fn band_in(p: &Teacher, subject: u16) -> u8
     }
 }
 
+// The band of the teacher at the place, or 0 past the teachers.
+fn band_at(teachers: &[Teacher], t: usize, subject: u16) -> u8
+    ensures { MatchOption (slice_get teachers.now t) (result ≡ 0) (λ p. result ≡ band_in subject (person (teacher_record p))) }
+{
+    teachers.get(t).map_or(0, |p| band_in(p, subject))
+}
+
 // The bands of the teachers in a lane of the subject, one byte a teacher; bytes past the teachers are 0.
 pub fn bands_of(teachers: &[Teacher], subject: u16) -> [u8; 200]
     ensures { length teachers.now ≤ 200 → take (length teachers.now) result ≡ map (band_in subject) (map person (map teacher_record teachers.now)) }
 {
-    let mut bands = [0u8; 200];
-    let n = if teachers.len() < 200 {
-        teachers.len()
-    } else {
-        200
-    };
-    for t in 0..n {
-        bands[t] = band_in(&teachers[t], subject);
-    }
-    bands
+    array::from_fn(|t| band_at(teachers, t, subject))
 }

@@ -1,114 +1,100 @@
 // Pick lists and wish lists.
-ghost use Rattle.std.specs.Prelude.{◌≡◌, ◌<◌, ◌≤◌, [], ◌∷◌, ◌++◌, map, length, take, if◌then◌else◌};
-ghost use Rattle.lines.specs.Entries.{has};
+ghost use Rattle.std.specs.Prelude.{◌≡◌, Bool, ◌++◌, take};
+ghost use Rattle.std.specs.Fn.{FnReturnsAt};
 ghost use Rattle.bounded.specs.Listed.{listed};
 ghost use Rattle.sheets.specs.Held.{model_of};
-ghost use Rattle.sheets.specs.Model.{lane_record, teacher_record};
-ghost use Rattle.market.specs.Lists.{keep_to, gather};
-ghost use Rattle.market.specs.Passing.{passes as passes_of, pass_at};
-ghost use Rattle.market.specs.Tables.{person, main_at, also_at, at_school, unnamed, pick_of};
+ghost use Rattle.sheets.specs.Model.{LaneRecord, lane_record, teacher_record};
+ghost use Rattle.market.specs.Choosing.{Answers, lanes_of, person_of, passing, gives};
+ghost use Rattle.market.specs.Lists.{gather};
+ghost use Rattle.market.specs.Tables.{person, main_at, also_at, unnamed, pick_of};
 
 use bounded::BoundedList;
 use lines::holds;
 use sheets::{Lane, Sheets, Teacher};
 
-// Is the lane at the school, and of the main subject, or else of a further licence?
-fn passes(p: &Teacher, school: u16, x: &Lane, main: bool) -> bool
-    ensures { result ≡ passes_of main (person (teacher_record p.now)) school (lane_record x.now) }
-{
-    if x.school != school {
-        return false;
-    }
-    if main {
-        x.subject == p.main
-    } else {
-        x.subject != p.main && holds(p.also.as_slice(), x.subject)
-    }
+// A teacher of a round, with a wish list.
+#[derive(Clone, Copy)]
+struct Chooser<'a> {
+    sheets: &'a Sheets,
+    teacher: &'a Teacher,
+    wishes: &'a [u16],
 }
 
-// Adds the lane at l, if it passes.
-fn add_lane(
-    out: &mut BoundedList<80>,
-    lanes: &[Lane],
-    l: usize,
-    p: &Teacher,
-    school: u16,
-    main: bool,
-)
-    requires { (length lanes.now ≤ 80) × (l < length lanes.now) }
-    ensures { listed out.new ≡ take 80 (listed out.old ++ (if pass_at main (map lane_record lanes.now) (person (teacher_record p.now)) school l then l ∷ [] else [])) }
-{
-    if !passes(p, school, &lanes[l], main) {
-        return;
+impl Chooser<'_> {
+    // Is the lane the school's, and of the main subject?
+    fn is_main(&self, school: u16, lane: &Lane) -> bool
+        ensures { result ≡ main_at (person_of self.now) school (lane_record lane.now) }
+    {
+        lane.school == school && lane.subject == self.teacher.main
     }
-    let _ = out.push(l as u16);
-}
 
-// Adds the lanes that pass, in declaration order.
-fn add_lanes(out: &mut BoundedList<80>, lanes: &[Lane], p: &Teacher, school: u16, main: bool)
-    requires { length lanes.now ≤ 80 }
-    ensures { listed out.new ≡ take 80 (listed out.old ++ keep_to (pass_at main (map lane_record lanes.now) (person (teacher_record p.now)) school) (length lanes.now)) }
-{
-    for l in 0..lanes.len() {
-        add_lane(out, lanes, l, p, school, main);
+    // Is the lane the school's, and of a further licence?
+    fn is_further(&self, school: u16, lane: &Lane) -> bool
+        ensures { result ≡ also_at (person_of self.now) school (lane_record lane.now) }
+    {
+        lane.school == school
+            && lane.subject != self.teacher.main
+            && holds(self.teacher.also.as_slice(), lane.subject)
     }
-}
 
-// Adds the school's lanes for which the teacher is licensed.
-fn add_school(out: &mut BoundedList<80>, lanes: &[Lane], p: &Teacher, school: u16)
-    requires { length lanes.now ≤ 80 }
-    ensures { listed out.new ≡ take 80 (listed out.old ++ at_school (map lane_record lanes.now) (person (teacher_record p.now)) school) }
-{
-    add_lanes(out, lanes, p, school, true);
-    add_lanes(out, lanes, p, school, false);
-}
-
-// Adds the lanes of the wished schools, in the order of the wishes.
-fn add_wished(out: &mut BoundedList<80>, lanes: &[Lane], p: &Teacher, wishes: &[u16])
-    requires { length lanes.now ≤ 80 }
-    ensures { listed out.new ≡ take 80 (listed out.old ++ gather (at_school (map lane_record lanes.now) (person (teacher_record p.now))) wishes.now) }
-{
-    for s in wishes {
-        add_school(out, lanes, p, *s);
+    // Adds the lanes that pass, in declaration order.
+    fn add_lanes<F: Fn(&Lane) -> bool>(&self, out: &mut BoundedList<80>, passes: F)
+        requires { F.IsAlwaysCallable passes }
+        ensures { (test : LaneRecord → Bool) → Answers (FnReturnsAt F.Fn passes) test → listed out.new ≡ take 80 (listed out.old ++ passing test (lanes_of self.now)) }
+    {
+        let lanes = self.sheets.lanes();
+        for (l, lane) in lanes.iter().enumerate() {
+            if passes(lane) {
+                let _ = out.push(l as u16);
+            }
+        }
     }
-}
 
-// Adds the school's lanes, if it is not wished.
-fn add_if_unnamed(
-    out: &mut BoundedList<80>,
-    lanes: &[Lane],
-    p: &Teacher,
-    school: u16,
-    wishes: &[u16],
-)
-    requires { length lanes.now ≤ 80 }
-    ensures { listed out.new ≡ take 80 (listed out.old ++ (if has school wishes.now then [] else at_school (map lane_record lanes.now) (person (teacher_record p.now)) school)) }
-{
-    if holds(wishes, school) {
-        return;
+    // Adds the school's lanes for which the teacher is licensed.
+    fn add_school(&self, out: &mut BoundedList<80>, school: u16)
+        ensures { listed out.new ≡ take 80 (listed out.old ++ gives self.now school) }
+    {
+        self.add_lanes(out, |lane| self.is_main(school, lane));
+        self.add_lanes(out, |lane| self.is_further(school, lane));
     }
-    add_school(out, lanes, p, school);
-}
 
-// Adds the lanes of the schools that are not wished, in declaration order.
-fn add_unnamed(out: &mut BoundedList<80>, lanes: &[Lane], p: &Teacher, schools: u16, wishes: &[u16])
-    requires { length lanes.now ≤ 80 }
-    ensures { listed out.new ≡ take 80 (listed out.old ++ gather (at_school (map lane_record lanes.now) (person (teacher_record p.now))) (unnamed schools wishes.now)) }
-{
-    for k in 0..schools {
-        add_if_unnamed(out, lanes, p, k + 1, wishes);
+    // Adds the lanes of the wished schools, in the order of the wishes.
+    #[tactic(auto, using(crate::proofs::Appending::wished_start, crate::proofs::Appending::wished_more))]
+    fn add_wished(&self, out: &mut BoundedList<80>)
+        ensures { listed out.new ≡ take 80 (listed out.old ++ gather (gives self.now) self.now.wishes.now) }
+    {
+        for school in self.wishes {
+            self.add_school(out, *school);
+        }
+    }
+
+    // Adds the lanes of the schools that are not wished, in declaration order.
+    fn add_unnamed(&self, out: &mut BoundedList<80>)
+        ensures { listed out.new ≡ take 80 (listed out.old ++ gather (gives self.now) (unnamed (model_of self.now.sheets.now).posts.schools self.now.wishes.now)) }
+    {
+        for school in 1..=self.sheets.schools() {
+            if !holds(self.wishes, school) {
+                self.add_school(out, school);
+            }
+        }
     }
 }
 
 // The pick list that the wishes give the teacher, each lane by its index. It is whole wherever it has at most 80 lanes, and so for every
 // acceptable wish list.
+#[tactic(auto, using(crate::proofs::Appending::picks_of_newcomer, crate::proofs::Appending::picks_of_incumbent))]
 pub fn pick_list(sheets: &Sheets, p: &Teacher, wishes: &[u16]) -> BoundedList<80>
     ensures { listed result ≡ take 80 (pick_of (model_of sheets.now).posts (person (teacher_record p.now)) wishes.now) }
 {
+    let chooser = Chooser {
+        sheets,
+        teacher: p,
+        wishes,
+    };
     let mut out = BoundedList::new();
-    add_wished(&mut out, sheets.lanes(), p, wishes);
+    chooser.add_wished(&mut out);
     if p.home != 0 {
-        add_unnamed(&mut out, sheets.lanes(), p, sheets.schools(), wishes);
+        chooser.add_unnamed(&mut out);
     }
     out
 }
