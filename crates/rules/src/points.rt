@@ -8,10 +8,11 @@ ghost use Rattle.rules.specs.Standings.{ahead_by_points};
 ghost use Rattle.rules.specs.Views.{points_view};
 ghost use Rattle.std.proofs.Common.{rules};
 
-use super::columns::{Column, ask, column_of, lane_count};
-use super::rows::{entry, is_within};
+use super::columns::{ask, column_of, lane_count};
+use super::rows::entry;
 use bounded::BoundedList;
 use lines::Fault;
+use matching::numbers::is_within;
 use matching::policy::Standing;
 use sheets::Sheets;
 
@@ -40,7 +41,7 @@ impl Points {
     {
         ask(desk, posts, staff)?;
         self.lanes = lane_count(desk);
-        self.points = column_of(desk, Column::Points);
+        self.points = column_of(desk, |teacher| teacher.points);
         Ok(())
     }
 }

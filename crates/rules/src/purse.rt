@@ -10,10 +10,11 @@ ghost use Rattle.bounded.specs.Listed.{listed};
 ghost use Rattle.rules.specs.Tallies.{heads, worth, most_nobody, none_nobody, most_part, none_part};
 ghost use Rattle.rules.specs.PurseLimitLemmas.{choice_true, choice_part};
 
-use super::columns::{Column, ask, column_of, sizes_of};
-use super::rows::{count_members, entry, is_within, weigh};
+use super::columns::{ask, column_of, sizes_of};
+use super::rows::{count_members, entry, weigh};
 use bounded::BoundedList;
 use lines::Fault;
+use matching::numbers::is_within;
 use matching::policy::Limit;
 use sheets::Sheets;
 
@@ -42,7 +43,7 @@ impl Purse {
     {
         ask(desk, posts, staff)?;
         self.sizes = sizes_of(desk);
-        self.costs = column_of(desk, Column::Cost);
+        self.costs = column_of(desk, |teacher| teacher.cost);
         Ok(())
     }
 }

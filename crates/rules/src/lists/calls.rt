@@ -12,10 +12,11 @@ ghost use Rattle.rules.specs.Views.{entry as entry_of, lists_view};
 ghost use Rattle.std.proofs.Common.{rules, arith};
 
 use super::super::columns::{ask, teacher_count};
-use super::super::rows::is_within;
+
 use super::Lists;
 use bounded::BoundedList;
 use lines::Fault;
+use matching::numbers::is_within;
 use matching::policy::Standing;
 use sheets::{Lane, Sheets};
 use std::alloc::{AllocError, Global};

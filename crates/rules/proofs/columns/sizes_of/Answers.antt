@@ -1,0 +1,9 @@
+use Rattle.std.proofs.Common.{map, ap, ◌∙◌, arith, rules}
+use Rattle.std.proofs.lemmas.List.{take_all, length-map}
+use Rattle.sheets.specs.declared.records.Lane.{Lane}
+use Rattle.sheets.specs.Model.{LaneRecord, lane_record}
+use Rattle.rules.proofs.Gathers.{all_gathered}
+use Rattle.rules.proofs.columns.sizes_of.Goals as goal
+
+pub returns : goal.returns
+returns c = c.gather.ensures (λ l. l.size) (λ l r p. search rules) ∙ all_gathered 80 (λ (l : LaneRecord). l.size) lane_record c.lanes.result.now c.lanes.ensures.few ∙ ap (map (λ (l : LaneRecord). l.size)) c.lanes.ensures.value
