@@ -25,10 +25,8 @@ fn gather<T, F: Fn(&T) -> u16, const N: usize>(items: &[T], number: F) -> Bounde
 
 // A number of each teacher on the desk.
 pub(crate) fn column_of<F: Fn(&Teacher) -> u16>(desk: &Sheets, number: F) -> BoundedList<200>
-    ghost of: { TeacherRecord → ℕ }
-    requires callable { F.IsAlwaysCallable number }
-    requires each { (t : Teacher) (r : ℕ) → FnReturnsAt F.Fn number t r → r ≡ of (teacher_record t) }
-    ensures { listed result ≡ map of (model_of desk.now).teachers }
+    requires { F.IsAlwaysCallable number }
+    ensures { (f : TeacherRecord → ℕ) → ((t : Teacher) (r : ℕ) → FnReturnsAt F.Fn number t r → r ≡ f (teacher_record t)) → listed result ≡ map f (model_of desk.now).teachers }
 {
     gather(desk.teachers(), number)
 }

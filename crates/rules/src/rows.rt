@@ -1,5 +1,5 @@
 // What a row of marks tells of a group, one byte a teacher in number order; and what a table says of a number, from 1.
-ghost use Rattle.std.specs.Prelude.{◌≡◌, ℕ, ◌<◌, ◌==◌, cond, slice_index_or, unwrap_or, option_copied};
+ghost use Rattle.std.specs.Prelude.{◌≡◌, ℕ, ◌-◌, ◌<◌, ◌==◌, cond, if◌then◌else◌, nat_lt, slice_get, slice_index_or, None, option_copied};
 ghost use Rattle.matching.specs.Count.{sum_to};
 ghost use Rattle.matching.specs.Groups.{told};
 ghost use Rattle.rules.specs.Limits.{members, cost_of, newcomers};
@@ -9,7 +9,7 @@ use lines::number_at;
 
 // What stands at n, counted from 1, if the table goes so far.
 pub(crate) fn numbered<T>(xs: &[T], n: u16) -> Option<&T>
-    ensures { (d : T) → unwrap_or (option_copied result) d ≡ entry_of xs.now n d }
+    ensures { option_copied result ≡ (if nat_lt 0 n then slice_get xs.now (n - 1) else None) }
 {
     xs.get(usize::from(n.checked_sub(1)?))
 }

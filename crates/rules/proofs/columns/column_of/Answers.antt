@@ -1,7 +1,7 @@
-use Rattle.std.proofs.Common.{map, ap, ◌∙◌, arith, rules}
+use Rattle.std.proofs.Common.{map, ap, ◌∙◌}
 use Rattle.sheets.specs.Model.{teacher_record}
 use Rattle.rules.proofs.Gathers.{all_gathered}
 use Rattle.rules.proofs.columns.column_of.Goals as goal
 
 pub returns : goal.returns
-returns g c = c.gather.ensures (λ t. g.of (teacher_record t)) c.requires.1.1 ∙ all_gathered 200 g.of teacher_record c.teachers.result.now c.teachers.ensures.few ∙ ap (map g.of) c.teachers.ensures.value
+returns g c = λ f h. c.gather.ensures (λ t. f (teacher_record t)) h ∙ all_gathered 200 f teacher_record c.teachers.result.now c.teachers.ensures.few ∙ ap (map f) c.teachers.ensures.value

@@ -1,6 +1,4 @@
-use Rattle.std.proofs.Common.{map, ap, ◌∙◌, arith, rules}
-use Rattle.std.proofs.lemmas.List.{take_all, length-map}
-use Rattle.sheets.specs.declared.records.Lane.{Lane}
+use Rattle.std.proofs.Common.{map, ap, ◌∙◌, rules}
 use Rattle.sheets.specs.Model.{LaneRecord, lane_record}
 use Rattle.rules.proofs.Gathers.{all_gathered}
 use Rattle.rules.proofs.columns.sizes_of.Goals as goal
