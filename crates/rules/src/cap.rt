@@ -60,7 +60,7 @@ impl<L: Limit> Limit for Cap<L> {
 
     fn fits(&self, lane: u16, row: &[u8]) -> bool {
         let below = self.below.fits(lane, row);
-        let few = count_newcomers(self.homes.as_slice(), row) <= self.most as u32;
+        let few = count_newcomers(self.homes.as_slice(), row) <= u32::from(self.most);
         below && few
     }
 }

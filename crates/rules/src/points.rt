@@ -57,6 +57,6 @@ impl Standing for Points {
     fn ahead_of(&self, lane: u16, a: u16, b: u16) -> bool {
         let points = self.points.as_slice();
         let more = entry(points, b) < entry(points, a);
-        is_within(lane, self.lanes as usize) && more
+        is_within(lane, usize::from(self.lanes)) && more
     }
 }

@@ -81,7 +81,7 @@ impl Lists {
         ensures { result ≡ place_on (lists_held self.now) lane teacher }
     {
         let list = list_of(self.lists.as_slice(), lane);
-        if is_within(teacher, self.teachers as usize) {
+        if is_within(teacher, usize::from(self.teachers)) {
             place_in(list, teacher)
         } else {
             list.len()
