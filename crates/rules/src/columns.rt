@@ -1,5 +1,5 @@
 // Columns of the two sheets, as bounded lists.
-ghost use Rattle.std.specs.Prelude.{◌≡◌, ℕ, map, length, take, Ok, Err, MatchResult};
+ghost use Rattle.std.specs.Prelude.{◌≡◌, ℕ, map, take, Ok, Err, MatchResult};
 ghost use Rattle.std.specs.Fn.{FnReturnsAt};
 ghost use Rattle.bounded.specs.Listed.{listed};
 ghost use Rattle.sheets.specs.Held.{model_of};
@@ -44,18 +44,4 @@ pub(crate) fn ask(desk: &mut Sheets, posts: &[u8], staff: &[u8]) -> Result<(), F
     ensures desk { model_of desk.new ≡ (reading (sheets_of posts.now staff.now)).1 }
 {
     desk.read(posts, staff)
-}
-
-// How many lanes are on the desk.
-pub(crate) fn lane_count(desk: &Sheets) -> u16
-    ensures { result ≡ length (model_of desk.now).posts.lanes }
-{
-    desk.lanes().len() as u16
-}
-
-// How many teachers are on the desk.
-pub(crate) fn teacher_count(desk: &Sheets) -> u16
-    ensures { result ≡ length (model_of desk.now).teachers }
-{
-    desk.teachers().len() as u16
 }

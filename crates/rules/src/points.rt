@@ -8,7 +8,7 @@ ghost use Rattle.rules.specs.Standings.{ahead_by_points};
 ghost use Rattle.rules.specs.Views.{points_view};
 ghost use Rattle.std.proofs.Common.{rules};
 
-use super::columns::{ask, column_of, lane_count};
+use super::columns::{ask, column_of};
 use super::rows::entry;
 use bounded::BoundedList;
 use lines::Fault;
@@ -40,7 +40,7 @@ impl Points {
         ensures desk { model_of desk.new ≡ (reading (sheets_of posts.now staff.now)).1 }
     {
         ask(desk, posts, staff)?;
-        self.lanes = lane_count(desk);
+        self.lanes = desk.lanes().len() as u16;
         self.points = column_of(desk, |teacher| teacher.points);
         Ok(())
     }

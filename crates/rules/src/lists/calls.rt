@@ -11,7 +11,7 @@ ghost use Rattle.rules.specs.Standings.{ahead_by_list, place_on};
 ghost use Rattle.rules.specs.Views.{entry as entry_of, lists_view};
 ghost use Rattle.std.proofs.Common.{rules, arith};
 
-use super::super::columns::{ask, teacher_count};
+use super::super::columns::ask;
 use super::super::rows::numbered;
 use super::Lists;
 use bounded::BoundedList;
@@ -61,7 +61,7 @@ impl Lists {
     fn take(&mut self, desk: &Sheets)
         ensures { lists_held self.new ≡ lists_view (model_of desk.now) }
     {
-        self.teachers = teacher_count(desk);
+        self.teachers = desk.teachers().len() as u16;
         self.lists.clear();
         copy_lists(&mut self.lists, desk.lanes());
     }

@@ -1,13 +1,10 @@
-use Rattle.std.proofs.Common.{[], map, take, refl, sym, ap, ◌∙◌, arith}
+use Rattle.std.proofs.Common.{map, take, refl, ap, ◌∙◌}
 use Rattle.std.proofs.lemmas.Fn.{says_at}
 use Rattle.std.proofs.lemmas.List.{take_all}
 use Rattle.bounded.specs.Listed.{listed}
 use Rattle.bounded.proofs.Lengths.{listed_within}
 use Rattle.rules.proofs.Gathers.{gather_push}
 use Rattle.rules.proofs.columns.gather.Goals as goal
-
-pub loop-x-init : goal.loop-x-init
-loop-x-init g c = λ f h. c.new-out.ensures ∙ sym (take_all g.row.N [] (omega arith))
 
 pub loop-x-preserved : goal.loop-x-preserved
 loop-x-preserved g c = λ f h.
