@@ -39,6 +39,7 @@ pub(crate) fn sizes_of(desk: &Sheets) -> BoundedList<80>
 }
 
 // Reads the two sheets onto the desk, which then has what they describe.
+// The five `fill`s that begin with it share no trait: each body is this call and a line for each table, and its clauses name its own view.
 pub(crate) fn ask(desk: &mut Sheets, posts: &[u8], staff: &[u8]) -> Result<(), Fault>
     ensures value { MatchResult result (λ _. sheets_of posts.now staff.now ≡ Ok (model_of desk.new)) (λ e. sheets_of posts.now staff.now ≡ Err e) }
     ensures desk { model_of desk.new ≡ (reading (sheets_of posts.now staff.now)).1 }
