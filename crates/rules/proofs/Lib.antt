@@ -1,3 +1,4 @@
 mod Gathers
+mod Marks
 mod Places
 mod Asked

@@ -2,7 +2,6 @@ pub mod Views
 pub mod Standings
 pub mod Limits
 pub mod Filled
-pub mod Columns
 pub mod Held
 pub mod Tallies
 pub mod PurseLimitLemmas

@@ -9,7 +9,7 @@ ghost use Rattle.rules.specs.Views.{homes_view};
 ghost use Rattle.std.proofs.lemmas.Bool.{and_from, and_parts};
 ghost use Rattle.rules.specs.Tallies.{newcomer, most_nobody, most_part};
 
-use super::columns::{Column, ask, column_of};
+use super::columns::{ask, column_of};
 use super::rows::count_newcomers;
 use bounded::BoundedList;
 use lines::Fault;
@@ -42,7 +42,7 @@ impl<L> Cap<L> {
         ensures desk { model_of desk.new ≡ (reading (sheets_of posts.now staff.now)).1 }
     {
         ask(desk, posts, staff)?;
-        self.homes = column_of(desk, Column::Home);
+        self.homes = column_of(desk, |teacher| teacher.home);
         Ok(())
     }
 }
@@ -60,7 +60,7 @@ impl<L: Limit> Limit for Cap<L> {
 
     fn fits(&self, lane: u16, row: &[u8]) -> bool {
         let below = self.below.fits(lane, row);
-        let few = count_newcomers(self.homes.as_slice(), row) <= self.most as u32;
+        let few = count_newcomers(self.homes.as_slice(), row) <= u32::from(self.most);
         below && few
     }
 }

@@ -8,10 +8,11 @@ ghost use Rattle.rules.specs.Standings.{ahead_by_points};
 ghost use Rattle.rules.specs.Views.{points_view};
 ghost use Rattle.std.proofs.Common.{rules};
 
-use super::columns::{Column, ask, column_of, lane_count};
-use super::rows::{entry, is_within};
+use super::columns::{ask, column_of};
+use super::rows::entry;
 use bounded::BoundedList;
 use lines::Fault;
+use matching::numbers::is_within;
 use matching::policy::Standing;
 use sheets::Sheets;
 
@@ -39,8 +40,8 @@ impl Points {
         ensures desk { model_of desk.new ≡ (reading (sheets_of posts.now staff.now)).1 }
     {
         ask(desk, posts, staff)?;
-        self.lanes = lane_count(desk);
-        self.points = column_of(desk, Column::Points);
+        self.lanes = desk.lanes().len() as u16;
+        self.points = column_of(desk, |teacher| teacher.points);
         Ok(())
     }
 }
@@ -56,6 +57,6 @@ impl Standing for Points {
     fn ahead_of(&self, lane: u16, a: u16, b: u16) -> bool {
         let points = self.points.as_slice();
         let more = entry(points, b) < entry(points, a);
-        is_within(lane, self.lanes as usize) && more
+        is_within(lane, usize::from(self.lanes)) && more
     }
 }

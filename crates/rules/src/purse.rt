@@ -10,8 +10,8 @@ ghost use Rattle.bounded.specs.Listed.{listed};
 ghost use Rattle.rules.specs.Tallies.{heads, worth, most_nobody, none_nobody, most_part, none_part};
 ghost use Rattle.rules.specs.PurseLimitLemmas.{choice_true, choice_part};
 
-use super::columns::{Column, ask, column_of, sizes_of};
-use super::rows::{count_members, entry, is_within, weigh};
+use super::columns::{ask, column_of, sizes_of};
+use super::rows::{count_members, numbered, weigh};
 use bounded::BoundedList;
 use lines::Fault;
 use matching::policy::Limit;
@@ -42,7 +42,7 @@ impl Purse {
     {
         ask(desk, posts, staff)?;
         self.sizes = sizes_of(desk);
-        self.costs = column_of(desk, Column::Cost);
+        self.costs = column_of(desk, |teacher| teacher.cost);
         Ok(())
     }
 }
@@ -56,11 +56,9 @@ impl Limit for Purse {
     ghost part = { unfold members cost_of in λ x lane g h p e. choice_part _ _ _ _ _ (most_part (worth (listed x.costs)) (λ _. refl) 200 _ g h p) (none_part heads (λ _. refl) 200 g h p) e };
 
     fn fits(&self, lane: u16, row: &[u8]) -> bool {
-        let sizes = self.sizes.as_slice();
-        if is_within(lane, sizes.len()) {
-            weigh(self.costs.as_slice(), row) <= entry(sizes, lane) as u32
-        } else {
-            count_members(row) == 0
+        match numbered(self.sizes.as_slice(), lane) {
+            Some(size) => weigh(self.costs.as_slice(), row) <= u32::from(*size),
+            None => count_members(row) == 0,
         }
     }
 }

@@ -1,88 +1,64 @@
 // What a row of marks tells of a group, one byte a teacher in number order; and what a table says of a number, from 1.
-ghost use Rattle.std.specs.Prelude.{◌≡◌, ◌==◌, slice_index_or};
+ghost use Rattle.std.specs.Prelude.{◌≡◌, ℕ, ◌-◌, ◌<◌, ◌==◌, cond, if◌then◌else◌, nat_lt, slice_get, slice_index_or, None, option_copied};
+ghost use Rattle.matching.specs.Count.{sum_to};
 ghost use Rattle.matching.specs.Groups.{told};
-ghost use Rattle.matching.specs.Log.{within};
 ghost use Rattle.rules.specs.Limits.{members, cost_of, newcomers};
 ghost use Rattle.rules.specs.Views.{entry as entry_of};
 
 use lines::number_at;
 
-// Is n one of the numbers from 1 to the last?
-pub(crate) fn is_within(n: u16, last: usize) -> bool
-    ensures { result ≡ within n last }
+// What stands at n, counted from 1, if the table goes so far.
+pub(crate) fn numbered<T>(xs: &[T], n: u16) -> Option<&T>
+    ensures { option_copied result ≡ (if nat_lt 0 n then slice_get xs.now (n - 1) else None) }
 {
-    0 < n && n as usize <= last
+    xs.get(usize::from(n.checked_sub(1)?))
 }
 
 // The number that stands at n, counted from 1; 0 where there is none.
 pub(crate) fn entry(ns: &[u16], n: u16) -> u16
     ensures { result ≡ entry_of ns.now n 0 }
 {
-    if 0 < n {
-        number_at(ns, (n - 1) as usize)
-    } else {
-        0
-    }
+    numbered(ns, n).copied().unwrap_or(0)
 }
 
-// The home of the teacher of index i; not 0 for an unknown teacher, who is no newcomer.
-fn home_at(homes: &[u16], i: usize) -> u16
-    ensures { result ≡ slice_index_or homes.now i 1 }
-{
-    if i < homes.len() { homes[i] } else { 1 }
-}
-
-// Is the teacher of index i a newcomer?
+// Is the teacher of index i a newcomer, with home 0? An unknown teacher is none.
 fn is_newcomer(homes: &[u16], i: usize) -> bool
     ensures { result ≡ (slice_index_or homes.now i 1 == 0) }
 {
-    home_at(homes, i) == 0
+    homes.get(i).is_some_and(|home| *home == 0)
+}
+
+// What the members of the row's group count together, where worth says what the teacher of an index counts.
+fn tally<F: Fn(usize) -> u16>(row: &[u8], worth: F) -> u32
+    requires { F.IsAlwaysCallable worth }
+    ensures { (w : ℕ → ℕ) → ((i r : ℕ) → i < 200 → F.post worth i r → r ≡ w i) → result ≡ sum_to (λ t. cond (told row.now t) (w t) 0) 200 }
+{
+    let mut sum = 0;
+    for (i, mark) in row.iter().take(200).enumerate() {
+        if *mark != 0 {
+            sum += u32::from(worth(i));
+        }
+    }
+    sum
 }
 
 // How many members the row's group has.
 pub(crate) fn count_members(row: &[u8]) -> u32
     ensures { result ≡ members (told row.now) }
 {
-    let mut sum: u32 = 0;
-    for (i, mark) in row.iter().enumerate() {
-        if i == 200 {
-            break;
-        }
-        if *mark != 0 {
-            sum += 1;
-        }
-    }
-    sum
+    tally(row, |_| 1)
 }
 
 // What the members of the row's group cost together.
 pub(crate) fn weigh(costs: &[u16], row: &[u8]) -> u32
     ensures { result ≡ cost_of costs.now (told row.now) }
 {
-    let mut sum: u32 = 0;
-    for (i, mark) in row.iter().enumerate() {
-        if i == 200 {
-            break;
-        }
-        if *mark != 0 {
-            sum += number_at(costs, i) as u32;
-        }
-    }
-    sum
+    tally(row, |i| number_at(costs, i))
 }
 
 // How many members of the row's group are newcomers.
 pub(crate) fn count_newcomers(homes: &[u16], row: &[u8]) -> u32
     ensures { result ≡ newcomers homes.now (told row.now) }
 {
-    let mut sum: u32 = 0;
-    for (i, mark) in row.iter().enumerate() {
-        if i == 200 {
-            break;
-        }
-        if *mark != 0 && is_newcomer(homes, i) {
-            sum += 1;
-        }
-    }
-    sum
+    tally(row, |i| u16::from(is_newcomer(homes, i)))
 }

@@ -51,6 +51,6 @@ impl Limit for Seats {
     ghost part = { unfold members in λ x lane g h p e. most_part heads (λ _. refl) 200 _ g h p e };
 
     fn fits(&self, lane: u16, row: &[u8]) -> bool {
-        count_members(row) <= entry(self.sizes.as_slice(), lane) as u32
+        count_members(row) <= u32::from(entry(self.sizes.as_slice(), lane))
     }
 }

@@ -11,11 +11,12 @@ ghost use Rattle.rules.specs.Standings.{ahead_by_list, place_on};
 ghost use Rattle.rules.specs.Views.{entry as entry_of, lists_view};
 ghost use Rattle.std.proofs.Common.{rules, arith};
 
-use super::super::columns::{ask, teacher_count};
-use super::super::rows::is_within;
+use super::super::columns::ask;
+use super::super::rows::numbered;
 use super::Lists;
 use bounded::BoundedList;
 use lines::Fault;
+use matching::numbers::is_within;
 use matching::policy::Standing;
 use sheets::{Lane, Sheets};
 use std::alloc::{AllocError, Global};
@@ -26,8 +27,8 @@ fn copy_lists(lists: &mut Vec<BoundedList<20>>, lanes: &[Lane])
     ensures value { map listed lists.new.items ≡ map (λ l. l.list) (map lane_record lanes.now) }
     ensures capacity { vec_capacity lists.new ≡ vec_capacity lists.old }
 {
-    for i in 0..lanes.len() {
-        lists.push_reserved(lanes[i].list);
+    for lane in lanes {
+        lists.push_reserved(lane.list);
     }
 }
 
@@ -35,26 +36,16 @@ fn copy_lists(lists: &mut Vec<BoundedList<20>>, lanes: &[Lane])
 fn list_of(lists: &[BoundedList<20>], lane: u16) -> &[u16]
     ensures { result.now ≡ entry_of (map listed lists.now) lane [] }
 {
-    if lane == 0 {
-        return &[];
-    }
-    let i = (lane - 1) as usize;
-    if i >= lists.len() {
-        return &[];
-    }
-    lists[i].as_slice()
+    numbered(lists, lane).map_or(&[], |list| list.as_slice())
 }
 
 // Where the list names the teacher, from 0; its length where it does not.
 fn place_in(list: &[u16], teacher: u16) -> usize
     ensures { result ≡ place_of teacher list.now }
 {
-    for (i, named) in list.iter().enumerate() {
-        if *named == teacher {
-            return i;
-        }
-    }
-    list.len()
+    list.iter()
+        .position(|named| *named == teacher)
+        .unwrap_or(list.len())
 }
 
 impl Lists {
@@ -70,7 +61,7 @@ impl Lists {
     fn take(&mut self, desk: &Sheets)
         ensures { lists_held self.new ≡ lists_view (model_of desk.now) }
     {
-        self.teachers = teacher_count(desk);
+        self.teachers = desk.teachers().len() as u16;
         self.lists.clear();
         copy_lists(&mut self.lists, desk.lanes());
     }
@@ -90,7 +81,7 @@ impl Lists {
         ensures { result ≡ place_on (lists_held self.now) lane teacher }
     {
         let list = list_of(self.lists.as_slice(), lane);
-        if is_within(teacher, self.teachers as usize) {
+        if is_within(teacher, usize::from(self.teachers)) {
             place_in(list, teacher)
         } else {
             list.len()

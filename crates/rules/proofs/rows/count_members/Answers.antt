@@ -1,25 +1,7 @@
-use Rattle.std.proofs.Common.{◌<◌, refl, ◌∙◌, arith, rules}
-use Rattle.matching.specs.Groups.{told}
+use Rattle.std.proofs.Common.{rules}
 use Rattle.rules.specs.Limits.{members}
-use Rattle.rules.specs.Tallies.{heads, tally_start, tally_in, tally_out, tally_row}
 use Rattle.rules.proofs.rows.count_members.Goals as goal
-use Rattle.rules.proofs.rows.count_members.Goals.{then-mark-ne0, else-mark-ne0}
 
-pub loop-i-init : goal.loop-i-init
-loop-i-init c = (tally_start heads (told c.args.row.now), omega arith, omega arith)
-
-pub loop-i-preserved : goal.loop-i-preserved
-loop-i-preserved c =
-    let l : c.loop-i.i < 200 = omega (arith, c.loop-i.invariant.2) in
-    elim c.if-mark-ne0.branch [
-      | then-mark-ne0 w ↦ let e = tally_in heads (λ _. refl) c.args.row.now c.loop-i.i l (search rules) in (omega (arith, e, w.sum-is), omega (arith, w.sum-is), omega arith)
-      | else-mark-ne0 w ↦ let e = tally_out heads (λ _. refl) c.args.row.now c.loop-i.i (search rules) in (omega (arith, e, w.sum-is), omega (arith, w.sum-is), omega arith)
-    ]
-
-pub returns-after-loop-i : goal.returns-after-loop-i
+pub returns : goal.returns
 unfolding members
-returns-after-loop-i c = c.loop-i.invariant.0 ∙ tally_row heads (λ _. refl) c.args.row.now c.loop-i.i c.loop-i.invariant.2 (λ h. omega arith)
-
-pub returns-then-i-eq200 : goal.returns-then-i-eq200
-unfolding members
-returns-then-i-eq200 c = c.loop-i.invariant.0 ∙ tally_row heads (λ _. refl) c.args.row.now c.loop-i.i c.loop-i.invariant.2 (λ h. omega arith)
+returns c = c.tally.ensures (λ _. 1) (λ i r l p. search rules)

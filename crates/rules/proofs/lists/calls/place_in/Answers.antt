@@ -1,12 +1,9 @@
-use Rattle.std.proofs.Common.{arith, rules}
-use Rattle.rules.proofs.Places.{place_here, place_more, place_none}
+use Rattle.std.proofs.Common.{◌≡◌, ◌≢◌, sym, ◌∙◌, rules, tests}
+use Rattle.std.proofs.lemmas.Iterator.{YieldsList-from_slice, IsFirst-from_position}
+use Rattle.rules.proofs.Places.{place_found}
 use Rattle.rules.proofs.lists.calls.place_in.Goals as goal
 
-pub loop-i-preserved : goal.loop-i-preserved
-loop-i-preserved c = (omega arith, omega (arith, place_more c.args.teacher c.args.list.now c.loop-i.i (omega arith) (search rules)))
-
-pub returns-then-named-teacher : goal.returns-then-named-teacher
-returns-then-named-teacher c = omega (arith, place_here c.args.teacher c.args.list.now c.loop-i.i (omega arith) (search rules))
-
 pub returns : goal.returns
-returns c = omega (arith, place_none c.args.teacher c.args.list.now c.loop-i.i (omega arith))
+returns c =
+    let t = c.args.teacher in
+    c.unwrap_or.ensures ∙ sym (place_found t c.args.list.now c.position.result (IsFirst-from_position _ _ _ (λ n. n ≡ t) (λ n. n ≢ t) c.position.ensures.ran (YieldsList-from_slice c.args.list.now (cc)) (λ x q k. search (rules, tests)) (λ x q k. search (rules, tests))))
