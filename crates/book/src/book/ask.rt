@@ -46,13 +46,11 @@ impl Book {
     pub fn rank(&self, l: usize, t: usize) -> u16
         ensures { result ≡ (fixed_of self.now).ranks l t }
     {
-        if l >= self.lane_count() {
-            return 0;
+        if l < self.lane_count() && t < self.teacher_count() {
+            self.ranks.entry(l, t)
+        } else {
+            0
         }
-        if t >= self.teacher_count() {
-            return 0;
-        }
-        self.ranks.entry(l * 200 + t)
     }
 
     // Is the teacher licensed with a rank of at least the cutoff?
