@@ -117,10 +117,10 @@ module _ {A : Type 0} (f : ℕ → A) (d : A) where
       (cases_lt t n)
 
 -- a row of marks
-pub row_told : (row : List ℕ) (g : ℕ → Bool) (n : ℕ) → n ≤ 200 → ((t : ℕ) → n ≤ t → g t ≡ false) → EachTo (λ t. cond (g t) 1 0) 0 row n → (t : ℕ) → told row t ≡ g t
-row_told row g n h past s t = ⊎_elim
-    (λ (a : t < 200). ap (λ b. b && not (eqb (get_or row t 0) 0)) (lt-ltb t 200 a) ∙ ap (λ k. not (eqb k 0)) (each_all (λ u. cond (g u) 1 0) 0 row n (λ u b. ap (λ x. cond x 1 0) (past u b)) s t) ∙ bit (g t))
-    (λ (b : 200 ≤ t). ap (λ x. x && not (eqb (get_or row t 0) 0)) (le-ltb t 200 b) ∙ sym (past t (omega arith)))
+pub row_told : (row : List ℕ) (g : ℕ → Bool) → ((t : ℕ) → 200 ≤ t → g t ≡ false) → ((t : ℕ) → get_or row t 0 ≡ cond (g t) 1 0) → (t : ℕ) → told row t ≡ g t
+row_told row g past s t = ⊎_elim
+    (λ (a : t < 200). ap (λ b. b && not (eqb (get_or row t 0) 0)) (lt-ltb t 200 a) ∙ ap (λ k. not (eqb k 0)) (s t) ∙ bit (g t))
+    (λ (b : 200 ≤ t). ap (λ x. x && not (eqb (get_or row t 0) 0)) (le-ltb t 200 b) ∙ sym (past t b))
     (cases_lt t 200)
   where
     bit : (x : Bool) → not (eqb (cond x 1 0) 0) ≡ x

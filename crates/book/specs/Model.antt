@@ -50,6 +50,10 @@ anyone lane g = true
 abbrev pub clears_in : Model → ℕ → ℕ → Bool
 clears_in m = clears (board_in anyone m.0) m.1.cuts
 
+-- the teacher's pick list by the wishes as they now are
+abbrev pub pick_list_in : Model → ℕ → List ℕ
+pick_list_in m t = picks (board_in anyone m.0) m.1 t
+
 abbrev pub offer_in : Model → ℕ → Option ℕ
 offer_in m = offer (board_in anyone m.0) (picks (board_in anyone m.0) m.1) m.1.cuts
 

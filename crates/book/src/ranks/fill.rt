@@ -34,7 +34,7 @@ impl Ranks {
     }
 }
 
-// The ranks of a lane's teachers, by their bands, the standing and their numbers; 0 for a teacher who is not licensed.
+// The ranks of a lane's teachers, by their bands, the standing and their numbers; 0 for a teacher who is not licensed. An array as at `offers`.
 fn rank_row<S: Standing>(standing: &S, lane: u16, teachers: &[Teacher], subject: u16) -> [u16; 200]
     requires { length teachers.now ≤ 200 }
     ensures { (t : ℕ) → slice_index result t ≡ rank_by (S.Standing.ahead standing.now) lane (map (band_in subject) (map person (map teacher_record teachers.now))) t }
