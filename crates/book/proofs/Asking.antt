@@ -1,5 +1,5 @@
 -- Ranks and offers that are read from a book.
-use Rattle.std.proofs.Common.{◌≡◌, ℕ, ◌+◌, ◌*◌, ◌<◌, ◌≤◌, Bool, true, false, cond, not, ◌&&◌, eqb, ltb, leb, ◌≢◌, List, [], map, length, get_or, drop, set, replicate, Some, None, sym, refl, ap, ◌∙◌, ap₂, ⊎_elim, arith, get_or-set_other, get_or-set_same}
+use Rattle.std.proofs.Common.{◌≡◌, ℕ, ◌+◌, ◌<◌, ◌≤◌, Bool, true, false, cond, not, ◌&&◌, eqb, ltb, leb, ◌≢◌, List, [], map, length, get_or, drop, set, replicate, Some, None, sym, refl, ap, ◌∙◌, ap₂, ⊎_elim, arith, get_or-set_other, get_or-set_same}
 use lib.ListN.{length-replicate}
 use Rattle.std.proofs.lemmas.List.{get_or_past, get_or-map, get_or-replicate, length-map, at_drop_more, at_drop_all}
 use Rattle.std.proofs.lemmas.Bool.{cases_lt, cases_eq, lt-ltb, le-ltb, cond-true, cond-false}
@@ -13,19 +13,19 @@ use Rattle.market.specs.Lists.{gather}
 use Rattle.market.specs.Tables.{person, stranger, person_at, pick_of, completed, wishes_of}
 use Rattle.sheets.specs.Model.{SheetsModel, TeacherRecord}
 use Rattle.sheets.specs.Tables.{nobody}
-use Rattle.book.specs.Model.{Model, unwished, fixed_from, tables_in, board_in, anyone, clears_in, offer_in, rank_in, picks_of}
+use Rattle.book.specs.Model.{Model, unwished, fixed_from, tables_in, board_in, anyone, clears_in, offer_in, entry_in, rank_in, picks_of}
 
 -- ---- ranks
 
-module _ (table : List ℕ) (lanes teachers l t : ℕ) where
-  pub rank_inside : l < lanes → t < teachers → get_or table (l * 200 + t) 0 ≡ rank_in table lanes teachers l t
-  rank_inside a b = sym (cond-true (ltb l lanes && ltb t teachers) (get_or table (l * 200 + t) 0) 0 (ap₂ (λ x y. x && y) (lt-ltb l lanes a) (lt-ltb t teachers b)))
+module _ (table : List (List ℕ)) (lanes teachers l t : ℕ) where
+  pub rank_inside : l < lanes → t < teachers → entry_in table l t ≡ rank_in table lanes teachers l t
+  rank_inside a b = sym (cond-true (ltb l lanes && ltb t teachers) (entry_in table l t) 0 (ap₂ (λ x y. x && y) (lt-ltb l lanes a) (lt-ltb t teachers b)))
 
   pub rank_no_lane : lanes ≤ l → 0 ≡ rank_in table lanes teachers l t
-  rank_no_lane a = sym (cond-false (ltb l lanes && ltb t teachers) (get_or table (l * 200 + t) 0) 0 (ap (λ x. x && ltb t teachers) (le-ltb l lanes a)))
+  rank_no_lane a = sym (cond-false (ltb l lanes && ltb t teachers) (entry_in table l t) 0 (ap (λ x. x && ltb t teachers) (le-ltb l lanes a)))
 
   pub rank_no_teacher : teachers ≤ t → 0 ≡ rank_in table lanes teachers l t
-  rank_no_teacher b = sym (cond-false (ltb l lanes && ltb t teachers) (get_or table (l * 200 + t) 0) 0 (no (ltb l lanes) (ltb t teachers) (le-ltb t teachers b)))
+  rank_no_teacher b = sym (cond-false (ltb l lanes && ltb t teachers) (entry_in table l t) 0 (no (ltb l lanes) (ltb t teachers) (le-ltb t teachers b)))
     where
       no : (x y : Bool) → y ≡ false → (x && y) ≡ false
       no true y e = e
@@ -117,10 +117,10 @@ module _ {A : Type 0} (f : ℕ → A) (d : A) where
       (cases_lt t n)
 
 -- a row of marks
-pub row_told : (row : List ℕ) (g : ℕ → Bool) (n : ℕ) → n ≤ 200 → ((t : ℕ) → n ≤ t → g t ≡ false) → EachTo (λ t. cond (g t) 1 0) 0 row n → (t : ℕ) → told row t ≡ g t
-row_told row g n h past s t = ⊎_elim
-    (λ (a : t < 200). ap (λ b. b && not (eqb (get_or row t 0) 0)) (lt-ltb t 200 a) ∙ ap (λ k. not (eqb k 0)) (each_all (λ u. cond (g u) 1 0) 0 row n (λ u b. ap (λ x. cond x 1 0) (past u b)) s t) ∙ bit (g t))
-    (λ (b : 200 ≤ t). ap (λ x. x && not (eqb (get_or row t 0) 0)) (le-ltb t 200 b) ∙ sym (past t (omega arith)))
+pub row_told : (row : List ℕ) (g : ℕ → Bool) → ((t : ℕ) → 200 ≤ t → g t ≡ false) → ((t : ℕ) → get_or row t 0 ≡ cond (g t) 1 0) → (t : ℕ) → told row t ≡ g t
+row_told row g past s t = ⊎_elim
+    (λ (a : t < 200). ap (λ b. b && not (eqb (get_or row t 0) 0)) (lt-ltb t 200 a) ∙ ap (λ k. not (eqb k 0)) (s t) ∙ bit (g t))
+    (λ (b : 200 ≤ t). ap (λ x. x && not (eqb (get_or row t 0) 0)) (le-ltb t 200 b) ∙ sym (past t b))
     (cases_lt t 200)
   where
     bit : (x : Bool) → not (eqb (cond x 1 0) 0) ≡ x

@@ -8,3 +8,4 @@ pub mod Results
 pub mod Rewriting
 pub mod Reaching
 pub mod Trying
+pub mod Filled

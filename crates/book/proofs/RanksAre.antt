@@ -1,5 +1,5 @@
 -- The table of ranks holds the ranks by bands, standing and number.
-use Rattle.std.proofs.Common.{◌≡◌, ℕ, ◌+◌, ◌*◌, ◌<◌, ◌≤◌, Bool, true, false, cond, not, ◌&&◌, eqb, ltb, List, length, get_or, sym, refl, ap, ◌∙◌, ap₂, ⊎_elim, arith}
+use Rattle.std.proofs.Common.{◌≡◌, ℕ, ◌+◌, ◌<◌, ◌≤◌, Bool, true, false, cond, not, ◌&&◌, eqb, ltb, List, length, get_or, sym, refl, ap, ◌∙◌, ap₂, ⊎_elim, arith}
 use mathlib.Core.Path.{fun_ext}
 use Rattle.std.proofs.lemmas.List.{get_or_past, get_or-map, length-map}
 use Rattle.std.proofs.lemmas.Bool.{cases_Bool, cases_lt, lt-ltb, le-ltb, cond-true, cond-false}
@@ -8,7 +8,7 @@ use Rattle.matching.specs.Market.{rank}
 use Rattle.matching.specs.Ranking.{rank_by}
 use Rattle.matching.proofs.Ranking.{rank_is}
 use Rattle.market.specs.Tables.{Tables, Person, stranger, teaches, band_of, band_in, bands_of, lane_at, person_at, licensed_for, market_of}
-use Rattle.book.specs.Model.{anyone, rank_in, ranks_by}
+use Rattle.book.specs.Model.{anyone, entry_in, rank_in, ranks_by}
 use Rattle.book.proofs.RankTable.{RanksTo}
 
 band_some : (p : Person) (k : ℕ) → eqb (band_of p k) 0 ≡ false
@@ -65,19 +65,19 @@ module _ (ahead : ℕ → ℕ → ℕ → Bool) (T : Tables) (few : length T.peo
       (λ (n : licensed_for T t l ≡ false). none t (sym (told_licensed t) ∙ n) ∙ sym (cond-false (licensed_for T t l) (rank (market_of ahead anyone T) l t) 0 n))
       (cases_Bool (licensed_for T t l))
 
-pub ranks_are : (ahead : ℕ → ℕ → ℕ → Bool) (T : Tables) (n : ℕ) (table : List ℕ) → length T.people ≤ 200 → n ≡ length T.people → RanksTo ahead T (length T.posts.lanes) table
+pub ranks_are : (ahead : ℕ → ℕ → ℕ → Bool) (T : Tables) (n : ℕ) (table : List (List ℕ)) → length T.people ≤ 200 → n ≡ length T.people → RanksTo ahead T (length T.posts.lanes) table
     → rank_in table (length T.posts.lanes) n ≡ ranks_by ahead T
 ranks_are ahead T n table few same h = fun_ext (λ l. fun_ext (λ t. ⊎_elim
     (λ (a : l < length T.posts.lanes). ⊎_elim
     (λ (b : t < n).
-    cond-true (ltb l (length T.posts.lanes) && ltb t n) (get_or table (l * 200 + t) 0) 0 (ap₂ (λ x y. x && y) (lt-ltb l (length T.posts.lanes) a) (lt-ltb t n b))
-    ∙ h l t a (omega arith) ∙ rank_by_bands ahead T few l a t)
+    cond-true (ltb l (length T.posts.lanes) && ltb t n) (entry_in table l t) 0 (ap₂ (λ x y. x && y) (lt-ltb l (length T.posts.lanes) a) (lt-ltb t n b))
+    ∙ h l t a ∙ rank_by_bands ahead T few l a t)
     (λ (b : n ≤ t).
-    cond-false (ltb l (length T.posts.lanes) && ltb t n) (get_or table (l * 200 + t) 0) 0 (ap₂ (λ x y. x && y) (lt-ltb l (length T.posts.lanes) a) (le-ltb t n b))
+    cond-false (ltb l (length T.posts.lanes) && ltb t n) (entry_in table l t) 0 (ap₂ (λ x y. x && y) (lt-ltb l (length T.posts.lanes) a) (le-ltb t n b))
     ∙ sym (cond-false (licensed_for T t l) (rank (market_of ahead anyone T) l t) 0 (ap (λ x. x && (ltb l (length T.posts.lanes) && teaches (person_at T t) (lane_at T l).subject)) (le-ltb t (length T.people) (omega arith)))))
     (cases_lt t n))
     (λ (a : length T.posts.lanes ≤ l).
-    cond-false (ltb l (length T.posts.lanes) && ltb t n) (get_or table (l * 200 + t) 0) 0 (ap (λ x. x && ltb t n) (le-ltb l (length T.posts.lanes) a))
+    cond-false (ltb l (length T.posts.lanes) && ltb t n) (entry_in table l t) 0 (ap (λ x. x && ltb t n) (le-ltb l (length T.posts.lanes) a))
     ∙ sym (cond-false (licensed_for T t l) (rank (market_of ahead anyone T) l t) 0 (no (ltb t (length T.people)) (ltb l (length T.posts.lanes)) (teaches (person_at T t) (lane_at T l).subject) (le-ltb l (length T.posts.lanes) a))))
     (cases_lt l (length T.posts.lanes))))
   where

@@ -1,9 +1,12 @@
 -- What the result sheet tells, line by line.
-use Rattle.std.proofs.Common.{◌≡◌, ℕ, zero, suc, ◌+◌, ◌<◌, ◌≤◌, Bool, true, false, eqb, ltb, ◌≢◌, List, [], ◌∷◌, ◌++◌, length, get_or, take, Some, vec_items, sym, refl, ap, ◌∙◌, ap₂, ⊎_elim, add-one, arith, length-append}
+use Rattle.std.proofs.Common.{◌≡◌, ℕ, zero, suc, ◌+◌, ◌*◌, ◌<◌, ◌≤◌, Bool, true, false, eqb, ltb, ◌≢◌, List, [], ◌∷◌, ◌++◌, map, length, get_or, take, Some, vec_items, sym, refl, ap, ◌∙◌, ap₂, ⊎_elim, add-one, mul-suc, arith, length-append}
 use Rattle.std.proofs.lemmas.List.{length-map, take_more, take_all}
+use Rattle.std.proofs.lemmas.List.FromFn.{sum_by-map-range_with_len_more}
+use Rattle.std.proofs.lemmas.List.Sums.{length-filter, sum_by_more}
+use Rattle.std.specs.List.{filter, range_with_len, sum_by, count_by}
 use Rattle.std.proofs.lemmas.Bool.{cases_lt, lt-ltb, ne_eqb, cond-true, cond-false}
 use Rattle.bounded.specs.Listed.{listed, pushed}
-use Rattle.matching.specs.Count.{sum_to}
+use Rattle.matching.specs.Count.{bit, count, sum_to}
 use Rattle.matching.specs.Log.{picks}
 use Rattle.matching.specs.Market.{Board, clears, offer}
 use Rattle.matching.proofs.Lists.{first_on}
@@ -11,7 +14,7 @@ use Rattle.matching.proofs.Offers.{board_clears_parts}
 use Rattle.market.specs.Lists.{join_to}
 use Rattle.market.specs.Tables.{person, pick_of}
 use Rattle.sheets.specs.Held.{model_of}
-use Rattle.sheets.specs.Model.{TeacherRecord, lane_record}
+use Rattle.sheets.specs.Model.{TeacherRecord, lane_record, teacher_record}
 use Rattle.book.specs.declared.book.Book.{Book}
 use Rattle.book.specs.Held.{book_model, state_of}
 use Rattle.book.specs.Model.{Model, anyone, board_in, offer_in}
@@ -26,6 +29,9 @@ module _ (b : Book) where
 
   pub few_lanes : length (model_of b.sheets).posts.lanes ≤ 80
   few_lanes = omega (arith, length-map (vec_items b.sheets.lanes) lane_record, b.sheets.few.0, b.sheets.lanes.ok.0)
+
+  pub few_teachers : length (model_of b.sheets).teachers ≤ 200
+  few_teachers = omega (arith, length-map (vec_items b.sheets.teachers) teacher_record, b.sheets.few.1, b.sheets.teachers.ok.0)
 
   pub picks_len : length (vec_items b.picks) ≡ length (model_of b.sheets).teachers
   picks_len =
@@ -75,13 +81,35 @@ row_whole xs d n e = sym (take_all n xs (omega arith)) ∙ row_entries xs d n (o
 -- ---- sums
 
 module _ (f : ℕ → ℕ) where
-  pub sum_none : 0 ≡ sum_to f 0
+  sum_taken : (xs : List ℕ) (d n : ℕ) → n ≤ length xs → sum_by f (take n xs) ≡ sum_to (λ l. f (get_or xs l d)) n
   unfolding sum_to
-  sum_none = refl
+  sum_taken xs d zero h = refl
+  sum_taken xs d (suc n) h =
+      ap (λ k. sum_by f (take k xs)) (sym (add-one n)) ∙ sum_by_more f xs n d (omega arith) ∙ omega (arith, sum_taken xs d n (omega arith))
 
-  pub sum_more : (n : ℕ) → sum_to f n + f n ≡ sum_to f (n + 1)
+  pub sum_listed : (xs : List ℕ) (d n : ℕ) → length xs ≡ n → sum_by f xs ≡ sum_to (λ l. f (get_or xs l d)) n
+  sum_listed xs d n e = ap (sum_by f) (sym (take_all n xs (omega arith))) ∙ sum_taken xs d n (omega arith)
+
+  pub sum_low : (n m : ℕ) → ((l : ℕ) → f l ≤ m) → sum_to f n ≤ m * n
   unfolding sum_to
-  sum_more n = sym (ap (sum_to f) (add-one n) ∙ omega arith)
+  sum_low zero m h = omega arith
+  sum_low (suc n) m h = omega (arith, mul-suc m n, h n, sum_low n m h)
+
+-- how many of the numbers below n pass
+map_same : (xs : List ℕ) → map (λ x. x) xs ≡ xs
+map_same [] = refl
+map_same (x ∷ xs) = ap (λ ys. x ∷ ys) (map_same xs)
+
+count_below : (p : ℕ → Bool) (n : ℕ) → count_by p (range_with_len 0 n) ≡ count p n
+unfolding sum_to
+count_below p zero = refl
+count_below p (suc n) =
+    ap (λ k. count_by p (range_with_len 0 k)) (sym (add-one n)) ∙ ap (count_by p) (sym (map_same (range_with_len 0 (n + 1))))
+    ∙ sum_by-map-range_with_len_more (λ x. bit (p x)) (λ x. x) 0 n n (omega arith)
+    ∙ omega (arith, ap (count_by p) (map_same (range_with_len 0 n)), count_below p n)
+
+pub count_listed : (p : ℕ → Bool) (n : ℕ) → length (filter p (range_with_len 0 n)) ≡ count p n
+count_listed p n = length-filter p (range_with_len 0 n) ∙ count_below p n
 
 -- ---- the whole sheet
 

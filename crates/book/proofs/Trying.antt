@@ -3,10 +3,11 @@ use Rattle.std.proofs.Common.{◌≡◌, ℕ, suc, ◌<◌, ◌≤◌, true, fal
 use Rattle.std.proofs.lemmas.List.{set-set, set-get_or}
 use Rattle.std.proofs.lemmas.Bool.{lt-ltb, le-ltb, eq-eqb, ne_eqb, cond-true, cond-false}
 use Rattle.matching.specs.Log.{within}
+use Rattle.std.specs.Result.{IsErrAnd}
 use Rattle.book.specs.declared.book.Book.{Book}
 use Rattle.book.specs.declared.book.trial.TrialRefusal.{TrialRefusal}
-use Rattle.book.specs.declared.book.trial.TrialRefusal.TheVariants.{NoLane, BadCutoff, BadRow}
-use Rattle.book.specs.Askers.{asker_bytes, licensed_in, asking, tried, trying, trial_left}
+use Rattle.book.specs.declared.book.trial.TrialRefusal.TheVariants.{NoLane, BadCutoff, BadRow as BadRowTried}
+use Rattle.book.specs.Askers.{asker_bytes, licensed_in, bad_row, asking, tried, trying, trial_left}
 use Rattle.book.specs.Held.{book_model, fixed_of, state_of}
 use Rattle.book.specs.Model.{Model}
 
@@ -33,7 +34,7 @@ module _ (m : Model) (l c : ℕ) (bytes : List ℕ) where
   pub trying_cutoff : l < length m.0.posts.lanes → within c (suc (licensed_in m l)) ≡ false → (Err BadCutoff, bytes) ≡ trying m l c bytes
   trying_cutoff h w = sym (cond-true _ _ _ (lt-ltb l (length m.0.posts.lanes) h) ∙ cond-false _ _ _ w)
 
-  pub trying_row : l < length m.0.posts.lanes → within c (suc (licensed_in m l)) ≡ true → (length bytes ≡ length m.0.staff → ⊥) → (Err BadRow, bytes) ≡ trying m l c bytes
+  pub trying_row : l < length m.0.posts.lanes → within c (suc (licensed_in m l)) ≡ true → (length bytes ≡ length m.0.staff → ⊥) → (Err BadRowTried, bytes) ≡ trying m l c bytes
   trying_row h w n = sym (cond-true _ _ _ (lt-ltb l (length m.0.posts.lanes) h) ∙ cond-true _ _ _ w ∙ cond-false _ _ _ (ne_eqb (length bytes) (length m.0.staff) n))
 
   pub trying_ok : (ys : List ℕ) → l < length m.0.posts.lanes → within c (suc (licensed_in m l)) ≡ true → length bytes ≡ length m.0.staff → ys ≡ asker_bytes (tried m l c) l → (Ok tt, ys) ≡ trying m l c bytes
@@ -41,5 +42,10 @@ module _ (m : Model) (l c : ℕ) (bytes : List ℕ) where
       ap (λ (zs : List ℕ). (Ok tt, zs)) y
       ∙ sym (cond-true _ _ _ (lt-ltb l (length m.0.posts.lanes) h) ∙ cond-true _ _ _ w ∙ cond-true _ _ _ (eq-eqb (length bytes) (length m.0.staff) e))
 
-pub asking_ok : (m : Model) (l : ℕ) (bytes ys : List ℕ) → length bytes ≡ length m.0.staff → ys ≡ asker_bytes m l → (true, ys) ≡ asking m l bytes
-asking_ok m l bytes ys e y = ap (λ (zs : List ℕ). (true, zs)) y ∙ sym (cond-true _ _ _ (eq-eqb (length bytes) (length m.0.staff) e))
+-- the refusal that a `?` makes
+pub refused : (r : Result (Unit {0}) TrialRefusal) (e : TrialRefusal) → IsErrAnd r (λ x. x ≡ e) → r ≡ Err e
+refused (Ok x) e h = absurd h
+refused (Err x) e h = ap Err h
+
+pub asking_ok : (m : Model) (l : ℕ) (bytes ys : List ℕ) → length bytes ≡ length m.0.staff → ys ≡ asker_bytes m l → (Ok tt, ys) ≡ asking m l bytes
+asking_ok m l bytes ys e y = ap (λ (zs : List ℕ). (Ok tt, zs)) y ∙ sym (cond-true _ _ _ (eq-eqb (length bytes) (length m.0.staff) e))

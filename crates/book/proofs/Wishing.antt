@@ -67,7 +67,7 @@ module _ (m : SheetsModel) (t : ℕ) (w : List ℕ) where
 
   -- ---- the book's answer
 
-  module _ (table : List ℕ) (cuts : ℕ → ℕ) (posted : Bool) where
+  module _ (table : List (List ℕ)) (cuts : ℕ → ℕ) (posted : Bool) where
     abbrev pub held : SheetsModel → (ℕ → ℕ) → Model
     held x c = (fixed_from x (rank_in table (length x.posts.lanes) (length x.teachers)), record { wishes = wishes_of x; cuts = c; posted = posted })
 

@@ -1,5 +1,5 @@
 -- A round as the rules speak of it: what stays the same, and what changes. Lanes and teachers go by their index. Assumes nothing.
-use Rattle.std.specs.Prelude.{ℕ, suc, ◌+◌, ◌*◌, min, Bool, true, false, cond, ◌&&◌, List, [], map, length, Option, ◌==◌, nat_lt, slice_index}
+use Rattle.std.specs.Prelude.{ℕ, suc, ◌+◌, min, Bool, true, false, cond, ◌&&◌, List, [], map, length, Option, ◌==◌, nat_lt, slice_index, slice_index_or}
 use Rattle.matching.specs.Groups.{Group}
 use Rattle.matching.specs.Log.{State, opened, picks, put}
 use Rattle.matching.specs.Market.{Board, board_of, clears, offer}
@@ -50,6 +50,10 @@ anyone lane g = true
 abbrev pub clears_in : Model → ℕ → ℕ → Bool
 clears_in m = clears (board_in anyone m.0) m.1.cuts
 
+-- the teacher's pick list by the wishes as they now are
+abbrev pub pick_list_in : Model → ℕ → List ℕ
+pick_list_in m t = picks (board_in anyone m.0) m.1 t
+
 abbrev pub offer_in : Model → ℕ → Option ℕ
 offer_in m = offer (board_in anyone m.0) (picks (board_in anyone m.0) m.1) m.1.cuts
 
@@ -63,9 +67,13 @@ opening ahead m = (fixed_from m (ranks_by ahead (tables_of m)), opened (wishes_o
 
 -- ---- how the tables are kept
 
--- a table of ranks has 200 entries for each lane
-abbrev pub rank_in : List ℕ → ℕ → ℕ → ℕ → ℕ → ℕ
-rank_in table lanes teachers l t = cond (nat_lt l lanes && nat_lt t teachers) (slice_index table (l * 200 + t)) 0
+-- a table of ranks has a row for each lane: the entry of teacher t in the row of lane l, 0 outside the table
+abbrev pub entry_in : List (List ℕ) → ℕ → ℕ → ℕ
+entry_in table l t = slice_index (slice_index_or table l []) t
+
+-- the ranks that a table tells of so many lanes and teachers
+abbrev pub rank_in : List (List ℕ) → ℕ → ℕ → ℕ → ℕ → ℕ
+rank_in table lanes teachers l t = cond (nat_lt l lanes && nat_lt t teachers) (entry_in table l t) 0
 
 -- the pick lists that the sheets' wishes give
 abbrev pub picks_of : SheetsModel → List (List ℕ)

@@ -6,6 +6,6 @@ mod ranks;
 
 pub use book::Book;
 pub use book::ask::asker_row;
-pub use book::trial::TrialRefusal;
+pub use book::trial::{BadRow, TrialRefusal};
 pub use ranks::Ranks;
 pub use ranks::fill::rank_all;

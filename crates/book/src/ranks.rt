@@ -1,12 +1,13 @@
 // The ranks of every teacher in every lane.
-ghost use Rattle.std.specs.Prelude.{◌≡◌, ℕ, ◌≤◌, vec_len, slice_index};
+ghost use Rattle.std.specs.Prelude.{◌≡◌, ℕ, ◌≤◌, vec_len};
+ghost use Rattle.book.specs.Model.{entry_in};
 
-// 200 entries for each of 80 lanes; 0 where a teacher is not licensed. No rank is above 201, since there are at most 200 teachers.
+// A row of 200 entries for each of 80 lanes; 0 where a teacher is not licensed. No rank is above 201, since there are at most 200 teachers.
 #[derive(Drop)]
 pub struct Ranks {
-    table: Vec<u16>,
-    ghost full: { vec_len table ≡ 16000 },
-    ghost small: { (k : ℕ) → slice_index table.items k ≤ 201 },
+    table: Vec<[u16; 200]>,
+    ghost full: { vec_len table ≡ 80 },
+    ghost small: { (l t : ℕ) → entry_in table.items l t ≤ 201 },
 }
 
 pub mod fill;

@@ -1,11 +1,13 @@
 // Questions of a book: cutoffs, ranks and offers.
-ghost use Rattle.std.specs.Prelude.{◌≡◌, ℕ, ◌<◌, ◌≤◌, length, if◌then◌else◌, Some, None, slice_index_or};
+ghost use Rattle.std.specs.Prelude.{◌≡◌, ℕ, ◌≤◌, length, None, slice_index_or};
+ghost use Rattle.matching.specs.Count.{bit};
 ghost use Rattle.matching.specs.Groups.{told};
 ghost use Rattle.matching.specs.Picks.{holds};
 ghost use Rattle.book.specs.Held.{fixed_of, state_of, book_model};
-ghost use Rattle.book.specs.Model.{clears_in, offer_in};
+ghost use Rattle.book.specs.Model.{clears_in, pick_list_in, offer_in};
 
 use super::Book;
+use std::array;
 
 impl Book {
     // Is the round posted, or not opened yet?
@@ -35,24 +37,18 @@ impl Book {
     pub fn cutoff(&self, l: usize) -> u16
         ensures { result ≡ (state_of self.now).cuts l }
     {
-        if l < self.cutoffs.len() {
-            self.cutoffs[l]
-        } else {
-            1
-        }
+        self.cutoffs.get(l).copied().unwrap_or(1)
     }
 
     // The rank of the teacher in the lane, both by their index; 0 for one who is not licensed.
     pub fn rank(&self, l: usize, t: usize) -> u16
         ensures { result ≡ (fixed_of self.now).ranks l t }
     {
-        if l >= self.lane_count() {
-            return 0;
+        if l < self.lane_count() && t < self.teacher_count() {
+            self.ranks.entry(l, t)
+        } else {
+            0
         }
-        if t >= self.teacher_count() {
-            return 0;
-        }
-        self.ranks.entry(l * 200 + t)
     }
 
     // Is the teacher licensed with a rank of at least the cutoff?
@@ -60,63 +56,55 @@ impl Book {
         ensures { result ≡ clears_in (book_model self.now) t l }
     {
         let rank = self.rank(l, t);
-        if rank == 0 {
-            return false;
+        rank > 0 && self.cutoff(l) <= rank
+    }
+
+    // The teacher's pick list; empty past the teachers.
+    pub(super) fn pick_list(&self, t: usize) -> &[u16]
+        ensures { result.now ≡ pick_list_in (book_model self.now) t }
+    {
+        match self.picks.get(t) {
+            Some(list) => list.as_slice(),
+            None => &[],
         }
-        self.cutoff(l) <= rank
     }
 
     // The first lane of the teacher's pick list that the teacher clears, by its index; none past the teachers.
     pub fn offer(&self, t: usize) -> Option<u16>
         ensures { result ≡ offer_in (book_model self.now) t }
     {
-        if t >= self.picks.len() {
-            return None;
-        }
-        let list = self.picks[t].as_slice();
-        for l in list {
-            if self.clears(t, *l as usize) {
-                return Some(*l);
-            }
-        }
-        None
+        self.pick_list(t)
+            .iter()
+            .copied()
+            .find(|l| self.clears(t, usize::from(*l)))
     }
 
-    // The offers of all teachers.
+    // The offers of all teachers, in an array with room for the most teachers: no call allocates, and a generic list cannot hold a `[T; N]`.
     pub fn offers(&self) -> [Option<u16>; 200]
         ensures long { length result ≡ 200 }
         ensures each { (t : ℕ) → slice_index_or result t None ≡ offer_in (book_model self.now) t }
     {
-        let mut offers = [None; 200];
-        for t in 0..self.teacher_count() {
-            offers[t] = self.offer(t);
-        }
-        offers
+        array::from_fn(|t| self.offer(t))
     }
 }
 
-// 1 if the offer is the lane, else 0.
-fn mark(offer: Option<u16>, l: usize) -> u8
-    ensures { result ≡ (if holds offer l then 1 else 0) }
+// Is the lane given, if any, this lane?
+pub(super) fn is_lane(lane: Option<u16>, l: usize) -> bool
+    ensures { result ≡ holds lane l }
 {
-    match offer {
-        Some(k) => if k as usize == l { 1 } else { 0 },
-        None => 0,
-    }
+    lane.is_some_and(|k| usize::from(k) == l)
 }
 
-// The row of a lane's askers among these offers.
+// 1 if the offer at the index is the lane, else 0; 0 past the offers.
+fn mark(offers: &[Option<u16>], t: usize, l: usize) -> u8
+    ensures { result ≡ bit (holds (slice_index_or offers.now t None) l) }
+{
+    u8::from(is_lane(offers.get(t).copied().flatten(), l))
+}
+
+// The row of a lane's askers among these offers, in an array as at `offers`.
 pub fn asker_row(offers: &[Option<u16>], l: usize) -> [u8; 200]
     ensures { length offers.now ≤ 200 → (t : ℕ) → told result t ≡ holds (slice_index_or offers.now t None) l }
 {
-    let mut row = [0u8; 200];
-    let n = if offers.len() < 200 {
-        offers.len()
-    } else {
-        200
-    };
-    for t in 0..n {
-        row[t] = mark(offers[t], l);
-    }
-    row
+    array::from_fn(|t| mark(offers, t, l))
 }

@@ -23,9 +23,7 @@ fn fill_picks(picks: &mut Vec<BoundedList<80>>, sheets: &Sheets)
     ensures capacity { vec_capacity picks.new ≡ vec_capacity picks.old }
 {
     picks.clear();
-    let teachers = sheets.teachers();
-    for t in 0..teachers.len() {
-        let record = &teachers[t];
+    for record in sheets.teachers() {
         let list = pick_list(sheets, record, record.wish.as_slice());
         picks.push_reserved(list);
     }
@@ -86,9 +84,8 @@ impl Book {
     pub fn raise(&mut self, l: usize)
         ensures { book_model self.new ≡ lifted (book_model self.old) l }
     {
-        if l < self.cutoffs.len() {
-            let next = self.cutoff(l) + 1;
-            self.cutoffs[l] = if next < 202 { next } else { 202 };
+        if let Some(cutoff) = self.cutoffs.get_mut(l) {
+            *cutoff = (*cutoff + 1).min(202);
         }
     }
 

@@ -1,9 +1,8 @@
 // The result sheet.
-ghost use Rattle.std.specs.Prelude.{◌≡◌};
+ghost use Rattle.std.specs.Prelude.{◌≡◌, ◌<◌, IfSome};
 ghost use Rattle.bounded.specs.Listed.{listed};
 ghost use Rattle.sheets.specs.Written.{writing};
 ghost use Rattle.book.specs.Held.{book_model};
-ghost use Rattle.book.specs.Model.{offer_in};
 ghost use Rattle.book.specs.Result.{seat as seat_of, raises as raises_of, seats as seats_of, result_bytes, result_sheet};
 
 use super::Book;
@@ -29,25 +28,25 @@ impl Text for ResultSheet<'_> {
     }
 }
 
-impl Book {
-    // The number of the lane that the teacher at the index is offered, from 1; 0 for none.
-    fn seat(&self, t: usize) -> u16
-        ensures { result ≡ seat_of (offer_in (book_model self.now) t) }
-    {
-        match self.offer(t) {
-            Some(l) => l + 1,
-            None => 0,
-        }
+// The number of the lane that is offered, from 1; 0 for none.
+fn seat(offer: Option<u16>) -> u16
+    requires { IfSome offer (λ l. l < 80) }
+    ensures { result ≡ seat_of offer }
+{
+    match offer {
+        Some(l) => l + 1,
+        None => 0,
     }
+}
 
+impl Book {
     // The seats of all teachers.
     fn seats(&self) -> BoundedList<200>
         ensures { listed result ≡ seats_of (book_model self.now) }
     {
         let mut seats = BoundedList::new();
-        for t in 0..self.teacher_count() {
-            let seat = self.seat(t);
-            let _ = seats.push(seat);
+        for offer in &self.offers()[..self.teacher_count()] {
+            let _ = seats.push(seat(*offer));
         }
         seats
     }
@@ -56,11 +55,10 @@ impl Book {
     pub fn raises(&self) -> u16
         ensures { result ≡ raises_of (book_model self.now) }
     {
-        let mut sum: u16 = 0;
-        for l in 0..self.lane_count() {
-            sum += self.cutoff(l).saturating_sub(1);
-        }
-        sum
+        self.cutoffs
+            .iter()
+            .map(|cutoff| cutoff.saturating_sub(1))
+            .sum()
     }
 
     // Writes the result sheet into the buffer, and answers its length. Nothing is the sheet of nothing. A short buffer is left as it is.

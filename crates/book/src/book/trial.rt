@@ -1,16 +1,32 @@
 // The askers of a lane, at its cutoff or at one that is tried.
-ghost use Rattle.std.specs.Prelude.{◌≡◌, ℕ, suc, ◌<◌, ◌≤◌, cond, length, vec_len, vec_capacity, slice_index, slice_set};
+ghost use Rattle.std.specs.Prelude.{◌≡◌, ℕ, suc, ◌<◌, ◌≤◌, ◌↔◌, IsOk, length, vec_len, vec_capacity, slice_index, slice_set};
 ghost use Rattle.matching.specs.Count.{bit};
 ghost use Rattle.matching.specs.Log.{within};
 ghost use Rattle.book.specs.Askers.{licensed_in, asking, trial_left};
+ghost use Rattle.book.specs.declared.book.trial.TrialRefusal.TheVariants.{BadRow as BadRowTried};
 ghost use Rattle.book.specs.Held.{book_model};
 ghost use Rattle.book.specs.Reach.{stops_at, comes_to, reach_in, reaches as reaches_at};
 ghost use Rattle.book.specs.Result.{row as row_of};
 
 use super::Book;
+use super::ask::is_lane;
+use std::error::Error;
+use std::{array, fmt};
+
+// The row has not one byte a teacher.
+#[derive(Clone, Copy, Debug, PartialEq, Eq)]
+pub struct BadRow;
+
+impl fmt::Display for BadRow {
+    fn fmt<W: fmt::Write>(&self, f: &mut fmt::Formatter<W>) -> fmt::Result {
+        write!(f, "the row has not one byte a teacher")
+    }
+}
+
+impl Error for BadRow {}
 
 // Why a trial is refused.
-#[derive(Clone, Copy)]
+#[derive(Clone, Copy, Debug, PartialEq, Eq)]
 pub enum TrialRefusal {
     // no such lane
     NoLane,
@@ -18,6 +34,29 @@ pub enum TrialRefusal {
     BadCutoff,
     // the row has not one byte a teacher
     BadRow,
+}
+
+impl fmt::Display for TrialRefusal {
+    fn fmt<W: fmt::Write>(&self, f: &mut fmt::Formatter<W>) -> fmt::Result {
+        match self {
+            TrialRefusal::NoLane => write!(f, "there is no such lane"),
+            TrialRefusal::BadCutoff => write!(
+                f,
+                "the cutoff is 0, or more than one above the lane's licensed teachers"
+            ),
+            TrialRefusal::BadRow => write!(f, "{BadRow}"),
+        }
+    }
+}
+
+impl Error for TrialRefusal {}
+
+impl From<BadRow> for TrialRefusal {
+    ghost from_gives = { λ _ refusal. refusal ≡ BadRowTried };
+
+    fn from(_row: BadRow) -> Self {
+        Self::BadRow
+    }
 }
 
 // The list of cutoffs with one of them at a number that is tried. When it ends, the old number stands there again.
@@ -56,28 +95,38 @@ impl Tried<'_> {
 }
 
 // May the cutoff be tried in a lane with so many licensed teachers?
-fn may_try(tried: u16, licensed: u16) -> bool
+fn may_try(tried: u16, licensed: usize) -> bool
     requires { licensed ≤ 200 }
     ensures { result ≡ within tried (suc licensed) }
 {
-    tried > 0 && tried <= licensed + 1
+    tried > 0 && usize::from(tried) <= licensed + 1
 }
 
 // 1 for a teacher with this reach who asks at the cutoff, else 0.
 fn mark_at(cutoff: u16, reach: u16) -> u8
     ensures { result ≡ bit (reaches_at cutoff reach) }
 {
-    if reach > 0 && cutoff <= reach { 1 } else { 0 }
+    u8::from(reach > 0 && cutoff <= reach)
+}
+
+// Has the row one byte a teacher?
+fn check_row(row: &[u8], teachers: usize) -> Result<(), BadRow>
+    ensures { IsOk result ↔ (length row.now ≡ teachers) }
+{
+    if row.len() == teachers {
+        Ok(())
+    } else {
+        Err(BadRow)
+    }
 }
 
 // Writes who asks at the cutoff: one byte a teacher.
-fn write_marks(cutoff: u16, reaches: &[u16], row: &mut [u8])
-    requires { length row.old ≤ length reaches.now }
+fn write_marks(cutoff: u16, reaches: &[u16; 200], row: &mut [u8])
+    requires { length row.old ≤ 200 }
     ensures { row.new ≡ row_of (λ t. bit (reaches_at cutoff (slice_index reaches.now t))) (length row.old) }
 {
-    for t in 0..row.len() {
-        row[t] = mark_at(cutoff, reaches[t]);
-    }
+    let marks = reaches.map(|reach| mark_at(cutoff, reach));
+    row.copy_from_slice(&marks[..row.len()]);
 }
 
 impl Book {
@@ -92,16 +141,8 @@ impl Book {
     fn comes_to(&self, l: usize, t: usize) -> bool
         ensures { result ≡ comes_to (book_model self.now) l t }
     {
-        if t >= self.picks.len() {
-            return false;
-        }
-        let list = self.picks[t].as_slice();
-        for k in list {
-            if self.stops_at(l, t, *k as usize) {
-                return *k as usize == l;
-            }
-        }
-        false
+        let mut lanes = self.pick_list(t).iter().copied();
+        is_lane(lanes.find(|k| self.stops_at(l, t, usize::from(*k))), l)
     }
 
     // The highest cutoff of the lane at which the teacher would ask for it; 0 if there is none.
@@ -115,43 +156,31 @@ impl Book {
         }
     }
 
-    // The reach of all teachers.
+    // The reach of all teachers, in an array as at `offers`.
     fn reaches(&self, l: usize) -> [u16; 200]
         ensures long { length result ≡ 200 }
         ensures each { (t : ℕ) → slice_index result t ≡ reach_in (book_model self.now) l t }
     {
-        let mut reaches = [0; 200];
-        for t in 0..self.teacher_count() {
-            reaches[t] = self.reach(l, t);
-        }
-        reaches
+        array::from_fn(|t| self.reach(l, t))
     }
 
     // How many teachers are licensed for the lane.
-    fn licensed(&self, l: usize) -> u16
+    fn licensed(&self, l: usize) -> usize
         ensures value { result ≡ licensed_in (book_model self.now) l }
         ensures few { result ≤ 200 }
     {
-        let mut count: u16 = 0;
-        for t in 0..self.teacher_count() {
-            if self.rank(l, t) > 0 {
-                count += 1;
-            }
-        }
-        count
+        (0..self.teacher_count())
+            .filter(|t| self.rank(l, *t) > 0)
+            .count()
     }
 
-    // Writes the askers of the lane into the row: one byte a teacher, 1 for an asker. Answers whether the row has one byte a teacher; if not, it
-    // is left as it is.
-    pub fn askers(&self, l: usize, row: &mut [u8]) -> bool
+    // Writes the askers of the lane into the row: one byte a teacher, 1 for an asker. A row that has not one byte a teacher is left as it is.
+    pub fn askers(&self, l: usize, row: &mut [u8]) -> Result<(), BadRow>
         ensures { (result, row.new) ≡ asking (book_model self.now) l row.old }
     {
-        if row.len() != self.teacher_count() {
-            return false;
-        }
-        let reaches = self.reaches(l);
-        write_marks(self.cutoff(l), &reaches, row);
-        true
+        check_row(row, self.teacher_count())?;
+        write_marks(self.cutoff(l), &self.reaches(l), row);
+        Ok(())
     }
 
     // Puts the lane's cutoff at the tried number, and writes the askers that the lane then has into the row. On every way out the old cutoff
@@ -175,9 +204,7 @@ impl Book {
         if !may_try(tried, licensed) {
             return Err(TrialRefusal::BadCutoff);
         }
-        if row.len() != teachers {
-            return Err(TrialRefusal::BadRow);
-        }
+        check_row(row, teachers)?;
         write_marks(guard.cutoff(), &reaches, row);
         Ok(())
     }

@@ -1,22 +1,31 @@
-use Rattle.std.proofs.Common.{◌≡◌, ℕ, ◌+◌, ◌-◌, ap, ◌∙◌, ap₂, arith}
-use Rattle.matching.specs.Count.{sum_to}
-use Rattle.book.specs.Held.{state_of}
-use Rattle.book.proofs.Results.{sum_none, sum_more}
+use Rattle.std.proofs.Common.{ℕ, ◌-◌, ◌≤◌, length, get_or, vec_items, ap, ◌∙◌, arith, rules}
+use Rattle.std.proofs.lemmas.Iterator.{YieldsList-from_slice, YieldsList-from_map}
+use Rattle.std.proofs.lemmas.Iterator.Consumers.{YieldsList-at, sum_by_from_yields_List, fits_by_from_yields_list}
+use Rattle.std.specs.List.{sum_by}
+use Rattle.sheets.specs.Held.{model_of}
+use Rattle.book.specs.declared.book.Book.{Book}
+use Rattle.book.proofs.Results.{sum_listed, sum_low, few_lanes}
 use Rattle.book.proofs.book.Book.raises.Goals as goal
 
-pub loop-l-init : goal.loop-l-init
-loop-l-init c = (sum_none (λ k. (state_of c.args.self.now).cuts k - 1), omega arith)
+-- 80 cutoffs of at most 202 have few raises
+low : (b : Book) → sum_by (λ x. x - 1) (vec_items b.cutoffs) ≤ 16080
+low b =
+    let n = length (model_of b.sheets).posts.lanes in
+    let each : (l : ℕ) → get_or (vec_items b.cutoffs) l 1 - 1 ≤ 201 = λ l. omega (arith, b.low l) in
+    omega (arith, sum_listed (λ x. x - 1) (vec_items b.cutoffs) 1 n (omega (arith, b.sized, b.cutoffs.ok.0)), sum_low (λ l. get_or (vec_items b.cutoffs) l 1 - 1) n 201 each, few_lanes b)
 
-pub overflow_add-sum : goal.overflow_add-sum
-overflow_add-sum c = omega (arith, c.loop-l.invariant.1, c.cutoff.ensures, c.saturating_sub-sum.ensures, c.args.self.now.low c.loop-l.l, c.lane_count-l-end.ensures.few)
-
-pub loop-l-preserved : goal.loop-l-preserved
-loop-l-preserved c =
-    let f : ℕ → ℕ = λ k. (state_of c.args.self.now).cuts k - 1 in
-    (ap₂ (λ a b. a + b) c.loop-l.invariant.0 (c.saturating_sub-sum.ensures ∙ ap (λ x. x - 1) c.cutoff.ensures) ∙ sum_more f c.loop-l.l, omega (arith, c.loop-l.invariant.1, c.cutoff.ensures, c.saturating_sub-sum.ensures, c.args.self.now.low c.loop-l.l))
+pub sum-requires-clause-fits : goal.sum-requires-clause-fits
+sum-requires-clause-fits c =
+    let b = c.args.self.now in
+    let less : ℕ → ℕ = λ x. x - 1 in
+    fits_by_from_yields_list less c.deref.result.now c.map.result _
+    (YieldsList-from_map _ less (YieldsList-at c.map.ensures.source (YieldsList-from_slice c.deref.result.now cc)) c.map.ensures.closure (λ x r q k. search rules))
+    (omega (arith, low b, ap (sum_by less) c.deref.ensures.value))
 
 pub returns : goal.returns
 returns c =
-    let f : ℕ → ℕ = λ k. (state_of c.args.self.now).cuts k - 1 in
-    let e : c.loop-l.l ≡ c.lane_count-l-end.result = omega arith in
-    c.loop-l.invariant.0 ∙ ap (sum_to f) (e ∙ c.lane_count-l-end.ensures.value)
+    let b = c.args.self.now in
+    let less : ℕ → ℕ = λ x. x - 1 in
+    sum_by_from_yields_List less c.deref.result.now c.map.result c.sum.result c.sum.ensures.ran
+    (YieldsList-from_map _ less (YieldsList-at c.map.ensures.source (YieldsList-from_slice c.deref.result.now cc)) c.map.ensures.closure (λ x r q k. search rules))
+    ∙ ap (sum_by less) c.deref.ensures.value ∙ sum_listed less (vec_items b.cutoffs) 1 (length (model_of b.sheets).posts.lanes) (omega (arith, b.sized, b.cutoffs.ok.0))

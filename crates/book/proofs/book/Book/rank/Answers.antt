@@ -5,17 +5,7 @@ use Rattle.book.specs.Model.{unwished}
 use Rattle.book.proofs.Asking.{rank_inside, rank_no_lane, rank_no_teacher}
 use Rattle.book.proofs.book.Book.rank.Goals as goal
 
-pub returns-then-l-lane_count : goal.returns-then-l-lane_count
-returns-then-l-lane_count c =
-    let m = model_of c.args.self.now.sheets in
-    rank_no_lane (vec_items c.args.self.now.ranks.table) (length m.posts.lanes) (length m.teachers) c.args.l c.args.t (omega (arith, c.lane_count.ensures.value))
-
 pub returns-then-t-teacher_count : goal.returns-then-t-teacher_count
 returns-then-t-teacher_count c =
-    let m = model_of c.args.self.now.sheets in
-    rank_no_teacher (vec_items c.args.self.now.ranks.table) (length m.posts.lanes) (length m.teachers) c.args.l c.args.t (omega (arith, c.teacher_count.ensures.value, length-map m.teachers unwished))
-
-pub returns : goal.returns
-returns c =
     let m = model_of c.args.self.now.sheets in
     c.entry.ensures ∙ rank_inside (vec_items c.args.self.now.ranks.table) (length m.posts.lanes) (length m.teachers) c.args.l c.args.t (omega (arith, c.lane_count.ensures.value)) (omega (arith, c.teacher_count.ensures.value, length-map m.teachers unwished))

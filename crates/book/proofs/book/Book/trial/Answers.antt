@@ -1,9 +1,12 @@
-use Rattle.std.proofs.Common.{◌≡◌, ℕ, suc, ◌<◌, List, length, vec_items, sym, refl, ap, ◌∙◌, arith}
+use Rattle.std.proofs.Common.{◌≡◌, ℕ, suc, ◌<◌, List, length, vec_items, Result, sym, refl, ap, ◌∙◌, arith}
 use Rattle.std.proofs.lemmas.List.{get_or-set_same}
 use Rattle.matching.specs.Log.{within}
+use Rattle.std.proofs.lemmas.Bool.{false≢true}
+use Rattle.book.specs.declared.book.trial.TrialRefusal.{TrialRefusal}
+use Rattle.book.specs.declared.book.trial.TrialRefusal.TheVariants.{BadRow}
 use Rattle.book.specs.Held.{book_model}
 use Rattle.book.proofs.Reaching.{marks_tried}
-use Rattle.book.proofs.Trying.{restored, low_back, left_back, trying_no_lane, trying_cutoff, trying_row, trying_ok}
+use Rattle.book.proofs.Trying.{restored, low_back, left_back, trying_no_lane, trying_cutoff, trying_row, trying_ok, refused}
 use Rattle.book.proofs.book.Book.trial.Goals as goal
 
 pub returns-then-l-len : goal.returns-then-l-len
@@ -33,27 +36,30 @@ returns-then-not-may_try c =
     let inside : c.args.l < length m.0.posts.lanes = omega (arith, c.len.ensures, b.sized) in
     left_back b (vec_items v) e c.args.l c.args.tried bytes _ (trying_cutoff m c.args.l c.args.tried bytes inside (ap (λ n. within c.args.tried (suc n)) (sym c.licensed-licensed.ensures.value) ∙ sym c.if-not-may_try.ensures))
 
-pub invariant_of-self-then-row-teachers : goal.invariant_of-self-then-row-teachers
-invariant_of-self-then-row-teachers c =
+pub invariant_of-self-in_err-check_row : goal.invariant_of-self-in_err-check_row
+invariant_of-self-in_err-check_row c =
     let b = c.args.self.now in
-    let v = c.drop-guard-then-row-teachers.new.self.0 in
-    let e : vec_items v ≡ vec_items b.cutoffs = c.drop-guard-then-row-teachers.ensures.value ∙ restored (vec_items b.cutoffs) c.args.l c.args.tried c.index-old.result.now c.index-old.ensures in
+    let v = c.drop-guard-in_err-check_row.new.self.0 in
+    let e : vec_items v ≡ vec_items b.cutoffs = c.drop-guard-in_err-check_row.ensures.value ∙ restored (vec_items b.cutoffs) c.args.l c.args.tried c.index-old.result.now c.index-old.ensures in
     record {
-      room = (b.room.0, omega (arith, c.drop-guard-then-row-teachers.ensures.capacity, b.room.1));
+      room = (b.room.0, omega (arith, c.drop-guard-in_err-check_row.ensures.capacity, b.room.1));
       sized = omega (arith, v.ok.0, ap length e, b.sized, b.cutoffs.ok.0);
       low = low_back b (vec_items v) e;
       picked = b.picked;
     }
 
-pub returns-then-row-teachers : goal.returns-then-row-teachers
-returns-then-row-teachers c =
+pub returns-in_err-check_row : goal.returns-in_err-check_row
+returns-in_err-check_row c =
     let b = c.args.self.now in
     let m = book_model b in
-    let v = c.drop-guard-then-row-teachers.new.self.0 in
-    let e : vec_items v ≡ vec_items b.cutoffs = c.drop-guard-then-row-teachers.ensures.value ∙ restored (vec_items b.cutoffs) c.args.l c.args.tried c.index-old.result.now c.index-old.ensures in
+    let v = c.drop-guard-in_err-check_row.new.self.0 in
+    let e : vec_items v ≡ vec_items b.cutoffs = c.drop-guard-in_err-check_row.ensures.value ∙ restored (vec_items b.cutoffs) c.args.l c.args.tried c.index-old.result.now c.index-old.ensures in
     let bytes : List ℕ = c.args.row.now in
     let inside : c.args.l < length m.0.posts.lanes = omega (arith, c.len.ensures, b.sized) in
-    left_back b (vec_items v) e c.args.l c.args.tried bytes _ (trying_row m c.args.l c.args.tried bytes inside (ap (λ n. within c.args.tried (suc n)) (sym c.licensed-licensed.ensures.value) ∙ sym c.if-not-may_try.ensures) (λ q. c.if-row-teachers.true (q ∙ sym c.teacher_count-teachers.ensures.value)))
+    let other : length bytes ≡ length m.0.staff → ⊥ = λ q. false≢true (c.in_err-check_row.ensures.1 (q ∙ sym c.teacher_count-teachers.ensures.value)) in
+    left_back b (vec_items v) e c.args.l c.args.tried bytes (c.from_residual.result, bytes)
+    (ap (λ (r : Result (Unit {0}) TrialRefusal). (r, bytes)) (refused c.from_residual.result BadRow c.from_residual.ensures.1)
+    ∙ trying_row m c.args.l c.args.tried bytes inside (ap (λ n. within c.args.tried (suc n)) (sym c.licensed-licensed.ensures.value) ∙ sym c.if-not-may_try.ensures) other)
 
 pub invariant_of-self-2 : goal.invariant_of-self-2
 invariant_of-self-2 c =
@@ -75,7 +81,7 @@ returns c =
     let e : vec_items v ≡ vec_items b.cutoffs = c.drop-guard-2.ensures.value ∙ restored (vec_items b.cutoffs) c.args.l c.args.tried c.index-old.result.now c.index-old.ensures in
     let bytes : List ℕ = c.args.row.now in
     let inside : c.args.l < length m.0.posts.lanes = omega (arith, c.len.ensures, b.sized) in
-    let n : length bytes ≡ length m.0.staff = c.if-row-teachers.false ∙ c.teacher_count-teachers.ensures.value in
+    let n : length bytes ≡ length m.0.staff = c.in_ok-check_row.ensures.0 refl ∙ c.teacher_count-teachers.ensures.value in
     let d : c.cutoff.result ≡ c.args.tried = c.cutoff.ensures ∙ get_or-set_same (vec_items b.cutoffs) c.args.l c.args.tried 0 (omega (arith, c.len.ensures, b.cutoffs.ok.0)) in
     left_back b (vec_items v) e c.args.l c.args.tried bytes _ (trying_ok m c.args.l c.args.tried bytes c.write_marks.new.row inside (ap (λ n. within c.args.tried (suc n)) (sym c.licensed-licensed.ensures.value) ∙ sym c.if-not-may_try.ensures) n
     (c.write_marks.ensures ∙ marks_tried m c.args.l c.args.tried c.cutoff.result (length bytes) c.reaches-reaches.result c.reaches-reaches.ensures.each n d))

@@ -6,7 +6,7 @@ use Rattle.sheets.specs.Held.{model_of}
 use Rattle.sheets.specs.Model.{teacher_record}
 use Rattle.book.proofs.book.change.fill_picks.Given as goal
 
-abbrev pub invariant-loop-t : goal.invariant-loop-t
-invariant-loop-t l =
-    (map listed (vec_items l.picks) ≡ map (λ (x : Teacher). take 80 (pick_of (model_of l.sheets).posts (person (teacher_record x)) (listed x.wish))) (take l.t l.teachers))
-    × (vec_len l.picks ≡ l.t) × (vec_capacity l.picks ≡ vec_capacity l.initial.picks)
+abbrev pub invariant-loop-record : goal.invariant-loop-record
+invariant-loop-record l =
+    (map listed (vec_items l.picks) ≡ map (λ (x : Teacher). take 80 (pick_of (model_of l.sheets).posts (person (teacher_record x)) (listed x.wish))) (take l.record-index l.record-items))
+    × (vec_len l.picks ≡ l.record-index) × (vec_capacity l.picks ≡ vec_capacity l.initial.picks)

@@ -1,5 +1,4 @@
-use Rattle.std.proofs.Common.{◌≤◌, map, length, take, replicate, ap, ◌∙◌, arith}
-use native.Mathlib.Nat.{sub-zero}
+use Rattle.std.proofs.Common.{◌≤◌, map, length, replicate, ap, ◌∙◌, arith}
 use Rattle.std.proofs.lemmas.List.{length-map}
 use Rattle.matching.specs.Ranking.{ranked}
 use Rattle.market.specs.Tables.{person, band_in}
@@ -13,7 +12,4 @@ returns g c =
     let bands = map (band_in c.args.subject) (map person (map teacher_record ts)) in
     let ahead = g.S.Standing.ahead c.args.standing.now in
     let few : length bands ≤ 200 = omega (arith, c.requires, length-map (map person (map teacher_record ts)) (band_in c.args.subject), length-map (map teacher_record ts) person, length-map ts teacher_record) in
-    record {
-      long = omega (arith, c.fill_ranks.auto.ranks);
-      value = row_at ahead c.args.lane bands few c.fill_ranks.new.ranks (c.fill_ranks.ensures.filled ∙ ap (λ b. ranked ahead c.args.lane b (replicate 200 0)) (ap (λ k. take k c.bands_of-bands.result) (sub-zero (length ts)) ∙ c.bands_of-bands.ensures c.requires));
-    }
+    row_at ahead c.args.lane bands few c.fill_ranks.new.ranks (c.fill_ranks.ensures.filled ∙ ap (λ b. ranked ahead c.args.lane b (replicate 200 0)) (c.bands_of-bands.ensures c.requires))
