@@ -1,18 +1,38 @@
 -- A book with another wish list for one teacher.
-use Rattle.std.proofs.Common.{◌≡◌, ℕ, ◌<◌, ◌≤◌, Bool, true, false, cond, ◌&&◌, eqb, ltb, ◌≢◌, List, [], map, length, get_or, take, set, sym, refl, ap, ◌∙◌, ap₂, ⊎_elim, arith, length-set, get_or-set_other, get_or-set_same}
+use Rattle.std.proofs.Common.{◌≡◌, ℕ, ◌<◌, ◌≤◌, Bool, true, false, cond, ◌&&◌, eqb, ltb, ◌≢◌, List, [], map, length, get_or, take, set, Ok, Err, Result, sym, refl, ap, ◌∙◌, ap₂, ⊎_elim, arith, length-set, get_or-set_other, get_or-set_same}
 use mathlib.Core.Path.{fun_ext}
 use Rattle.std.proofs.lemmas.List.{get_or-map, length-map, map-set, set-get_or}
-use Rattle.std.proofs.lemmas.Bool.{cases_eq, both_ways, ltb-true, eq-eqb, ne_eqb, cond-true, cond-false, and_parts}
+use Rattle.std.proofs.lemmas.Bool.{cases_eq, ltb-true, eq-eqb, ne_eqb, cond-true, cond-false, and_parts, and_from}
 use Rattle.bounded.specs.Listed.{listed}
 use Rattle.bounded.specs.declared.list.BoundedList.{BoundedList}
 use Rattle.matching.specs.Log.{State, put}
 use Rattle.market.specs.Tables.{person, pick_of, wishes_of}
 use Rattle.sheets.specs.declared.records.Teacher.{Teacher}
+use Rattle.sheets.specs.declared.refusals.WishRefusal.{WishRefusal}
+use Rattle.sheets.specs.declared.refusals.WishRefusal.TheVariants.{NoTeacher, BadWishes}
 use Rattle.sheets.specs.Model.{SheetsModel, TeacherRecord, teacher_record}
 use Rattle.sheets.specs.Ranges.{wish_ok}
 use Rattle.sheets.specs.Tables.{with_wish, nobody, rewished}
 use Rattle.book.specs.Model.{Fixed, Model, unwished, fixed_from, rank_in, picks_of, wished}
 use Rattle.book.proofs.Changes.{pick_short}
+
+-- there is such a teacher (a) and the list is acceptable (b): the answer, with y or z
+abbrev judged : {C : Type 0} → Bool → Bool → C → C → Result (Unit {0}) WishRefusal × C
+judged a b y z = cond a (cond b (Ok tt, y) (Err BadWishes, z)) (Err NoTeacher, z)
+
+no_ok : (x : WishRefusal) → ◌≡◌ {A = Result (Unit {0}) WishRefusal} (Ok tt) (Err x) → ⊥
+no_ok x e = grind arith
+
+stays : {C : Type 0} (a b : Bool) (y z : C) (x : WishRefusal) (n : C) → ◌≡◌ {A = Result (Unit {0}) WishRefusal × C} (Err x, n) (judged a b y z) → n ≡ z
+stays true true y z x n e = absurd (no_ok x (sym (ap (λ p. p.0) e)))
+stays true false y z x n e = ap (λ p. p.1) e
+stays false b y z x n e = ap (λ p. p.1) e
+
+-- what is refused of one is refused of the other for the same
+refused_alike : {C D : Type 0} (a b : Bool) (y z : C) (u v : D) (x : WishRefusal) (n : C) → ◌≡◌ {A = Result (Unit {0}) WishRefusal × C} (Err x, n) (judged a b y z) → ◌≡◌ {A = Result (Unit {0}) WishRefusal × D} (Err x, v) (judged a b u v)
+refused_alike true true y z u v x n e = absurd (no_ok x (sym (ap (λ p. p.0) e)))
+refused_alike true false y z u v x n e = ap (λ r. (r, v)) (ap (λ p. p.0) e)
+refused_alike false b y z u v x n e = ap (λ r. (r, v)) (ap (λ p. p.0) e)
 
 module _ (m : SheetsModel) (t : ℕ) (w : List ℕ) where
   -- there is such a teacher, and the list is acceptable
@@ -26,20 +46,16 @@ module _ (m : SheetsModel) (t : ℕ) (w : List ℕ) where
   after = record { posts = m.posts; teachers = set m.teachers t record' }
 
   -- what the answer of the sheets says
-  module _ (n : SheetsModel) where
-    pub said_yes : ◌≡◌ {A = Bool × SheetsModel} (true, n) (rewished m t w) → (test ≡ true) × (n ≡ after)
-    said_yes e = by test refl
-      where
-        by : (b : Bool) → test ≡ b → (test ≡ true) × (n ≡ after)
-        by true h = (h, ap (λ p. p.1) (e ∙ cond-true test (true, after) (false, m) h))
-        by false h = absurd (both_ways true (ap (λ (p : Bool × SheetsModel). p.0) (e ∙ cond-false test (true, after) (false, m) h)) refl)
+  pub said_yes : (n : SheetsModel) → ◌≡◌ {A = Result (Unit {0}) WishRefusal × SheetsModel} (Ok tt, n) (rewished m t w) → (test ≡ true) × (n ≡ after)
+  said_yes n e = by (ltb t (length m.teachers)) (wish_ok m.posts.schools w) refl refl e
+    where
+      by : (a b : Bool) → ltb t (length m.teachers) ≡ a → wish_ok m.posts.schools w ≡ b → ◌≡◌ {A = Result (Unit {0}) WishRefusal × SheetsModel} (Ok tt, n) (judged a b after m) → (test ≡ true) × (n ≡ after)
+      by true true h k e = (and_from _ _ h k, ap (λ p. p.1) e)
+      by true false h k e = absurd (no_ok BadWishes (ap (λ p. p.0) e))
+      by false b h k e = absurd (no_ok NoTeacher (ap (λ p. p.0) e))
 
-    pub said_no : ◌≡◌ {A = Bool × SheetsModel} (false, n) (rewished m t w) → (test ≡ false) × (n ≡ m)
-    said_no e = by test refl
-      where
-        by : (b : Bool) → test ≡ b → (test ≡ false) × (n ≡ m)
-        by false h = (h, ap (λ p. p.1) (e ∙ cond-false test (true, after) (false, m) h))
-        by true h = absurd (both_ways true (sym (ap (λ (p : Bool × SheetsModel). p.0) (e ∙ cond-true test (true, after) (false, m) h))) refl)
+  pub said_no : (x : WishRefusal) (n : SheetsModel) → ◌≡◌ {A = Result (Unit {0}) WishRefusal × SheetsModel} (Err x, n) (rewished m t w) → n ≡ m
+  said_no x n e = stays (ltb t (length m.teachers)) (wish_ok m.posts.schools w) after m x n e
 
   pub teacher_in : test ≡ true → t < length m.teachers
   teacher_in h = ltb-true t (length m.teachers) (and_parts (ltb t (length m.teachers)) (wish_ok m.posts.schools w) h).0
@@ -71,16 +87,17 @@ module _ (m : SheetsModel) (t : ℕ) (w : List ℕ) where
     abbrev pub held : SheetsModel → (ℕ → ℕ) → Model
     held x c = (fixed_from x (rank_in table (length x.posts.lanes) (length x.teachers)), record { wishes = wishes_of x; cuts = c; posted = posted })
 
-    same_test : (ltb t (length (map unwished m.teachers)) && wish_ok m.posts.schools w) ≡ test
-    same_test = ap (λ k. ltb t k && wish_ok m.posts.schools w) (length-map m.teachers unwished)
-
     abbrev changed : Model
     changed = ((held m cuts).0, record { wishes = put (wishes_of m) t w; cuts = λ _. 1; posted = posted })
 
-    pub wished_no : test ≡ false → (n : SheetsModel) → n ≡ m → ◌≡◌ {A = Bool × Model} (false, held n cuts) (wished (held m cuts) t w)
-    wished_no h n e =
-        ap (λ x. (false, held x cuts)) e
-        ∙ sym (cond-false (ltb t (length (map unwished m.teachers)) && wish_ok m.posts.schools w) (true, changed) (false, held m cuts) (same_test ∙ h))
+    judged_wished : wished (held m cuts) t w ≡ judged (ltb t (length m.teachers)) (wish_ok m.posts.schools w) changed (held m cuts)
+    judged_wished = ap (λ k. judged (ltb t k) (wish_ok m.posts.schools w) changed (held m cuts)) (length-map m.teachers unwished)
+
+    pub wished_no : (x : WishRefusal) (n : SheetsModel) → ◌≡◌ {A = Result (Unit {0}) WishRefusal × SheetsModel} (Err x, n) (rewished m t w) → n ≡ m → ◌≡◌ {A = Result (Unit {0}) WishRefusal × Model} (Err x, held n cuts) (wished (held m cuts) t w)
+    wished_no x n s e =
+        ap (λ y. (Err x, held y cuts)) e
+        ∙ refused_alike (ltb t (length m.teachers)) (wish_ok m.posts.schools w) after m changed (held m cuts) x n s
+        ∙ sym judged_wished
 
     held_after : test ≡ true → held after (λ _. 1) ≡ changed
     held_after h =
@@ -88,10 +105,11 @@ module _ (m : SheetsModel) (t : ℕ) (w : List ℕ) where
         (ap₂ {C = Fixed} (λ (xs : List TeacherRecord) (k : ℕ). record { posts = m.posts; staff = xs; ranks = rank_in table (length m.posts.lanes) k }) (staff_same h) (length-set m.teachers t record'))
         (ap (λ (v : ℕ → List ℕ). record { wishes = v; cuts = λ _. 1; posted = posted }) (wishes_put h))
 
-    pub wished_yes : test ≡ true → (n : SheetsModel) → n ≡ after → (c : ℕ → ℕ) → c ≡ (λ _. 1) → ◌≡◌ {A = Bool × Model} (true, held n c) (wished (held m cuts) t w)
+    pub wished_yes : test ≡ true → (n : SheetsModel) → n ≡ after → (c : ℕ → ℕ) → c ≡ (λ _. 1) → ◌≡◌ {A = Result (Unit {0}) WishRefusal × Model} (Ok tt, held n c) (wished (held m cuts) t w)
     wished_yes h n e c f =
-        ap₂ (λ x d. (true, held x d)) e f ∙ ap (λ x. (true, x)) (held_after h)
-        ∙ sym (cond-true (ltb t (length (map unwished m.teachers)) && wish_ok m.posts.schools w) (true, changed) (false, held m cuts) (same_test ∙ h))
+        let both = and_parts (ltb t (length m.teachers)) (wish_ok m.posts.schools w) h in
+        ap₂ (λ x d. (Ok tt, held x d)) e f ∙ ap (λ x. (Ok tt, x)) (held_after h)
+        ∙ sym (judged_wished ∙ ap₂ (λ a b. judged a b changed (held m cuts)) both.0 both.1)
 
   -- ---- the pick lists
 

@@ -1,9 +1,11 @@
 -- A round as the rules speak of it: what stays the same, and what changes. Lanes and teachers go by their index. Assumes nothing.
-use Rattle.std.specs.Prelude.{ℕ, suc, ◌+◌, min, Bool, true, false, cond, ◌&&◌, List, [], map, length, Option, ◌==◌, nat_lt, slice_index, slice_index_or}
+use Rattle.std.specs.Prelude.{ℕ, suc, ◌+◌, min, Bool, true, false, cond, if◌then◌else◌, ◌&&◌, List, [], map, length, Ok, Err, Option, Result, ◌==◌, nat_lt, slice_index, slice_index_or}
 use Rattle.matching.specs.Groups.{Group}
 use Rattle.matching.specs.Log.{State, opened, picks, put}
 use Rattle.matching.specs.Market.{Board, board_of, clears, offer}
 use Rattle.market.specs.Tables.{Tables, person, person_at, pick_of, wishes_of, tables_of, market_of}
+use Rattle.sheets.specs.declared.refusals.WishRefusal.{WishRefusal}
+use Rattle.sheets.specs.declared.refusals.WishRefusal.TheVariants.{NoTeacher, BadWishes}
 use Rattle.sheets.specs.Model.{PostsModel, TeacherRecord, SheetsModel, blank}
 use Rattle.sheets.specs.Ranges.{wish_ok}
 use Rattle.sheets.specs.Tables.{with_wish}
@@ -89,11 +91,12 @@ abbrev pub lifted : Model → ℕ → Model
 lifted m l = (m.0, with_cuts m.1 (λ k. cond (nat_lt l (length m.0.posts.lanes) && k == l) (min (suc (m.1.cuts k)) 202) (m.1.cuts k)))
 
 -- another wish list for the teacher at t, and every cutoff 1; nothing where there is no such teacher or the list is not acceptable
-abbrev pub wished : Model → ℕ → List ℕ → Bool × Model
+abbrev pub wished : Model → ℕ → List ℕ → Result (Unit {0}) WishRefusal × Model
 wished m t w =
-    cond (nat_lt t (length m.0.staff) && wish_ok m.0.posts.schools w)
-    (true, (m.0, record { wishes = put m.1.wishes t w; cuts = λ _. 1; posted = m.1.posted }))
-    (false, m)
+    if nat_lt t (length m.0.staff) then
+    if wish_ok m.0.posts.schools w then (Ok tt, (m.0, record { wishes = put m.1.wishes t w; cuts = λ _. 1; posted = m.1.posted }))
+    else (Err BadWishes, m)
+    else (Err NoTeacher, m)
 
 -- the round is closed
 abbrev pub closed : Model → Model

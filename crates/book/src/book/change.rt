@@ -13,7 +13,7 @@ use crate::ranks::fill::rank_all;
 use bounded::BoundedList;
 use market::pick_list;
 use matching::policy::Standing;
-use sheets::Sheets;
+use sheets::{Sheets, WishRefusal};
 use std::alloc::{AllocError, Global};
 
 // The pick lists that the sheets' wishes give, in the place of those that were there.
@@ -105,18 +105,16 @@ impl Book {
         self.take_over(desk);
     }
 
-    // Gives the teacher at the index another wish list, and sets every cutoff to 1; answers whether there is such a teacher and the list is
-    // acceptable, and changes nothing if not.
-    pub fn rewish(&mut self, t: usize, wishes: &[u16]) -> bool
+    // Gives the teacher at the index another wish list, and sets every cutoff to 1. Where there is no such teacher, or the list is not acceptable,
+    // nothing changes.
+    pub fn rewish(&mut self, t: usize, wishes: &[u16]) -> Result<(), WishRefusal>
         ensures { (result, book_model self.new) ≡ wished (book_model self.old) t wishes.now }
     {
-        if !self.sheets.rewish(t, wishes) {
-            return false;
-        }
+        self.sheets.rewish(t, wishes)?;
         let record = &self.sheets.teachers()[t];
         let list = pick_list(&self.sheets, record, wishes);
         self.picks[t] = list;
         fill_ones(&mut self.cutoffs, self.sheets.lanes().len());
-        true
+        Ok(())
     }
 }

@@ -2,7 +2,7 @@ use Rattle.std.proofs.Common.{length, vec_items, ◌∙◌, arith}
 use Rattle.std.proofs.lemmas.List.{length-map}
 use Rattle.sheets.specs.Held.{model_of}
 use Rattle.book.specs.Model.{unwished}
-use Rattle.book.proofs.Asking.{rank_inside, rank_no_lane, rank_no_teacher}
+use Rattle.book.proofs.Asking.{rank_inside}
 use Rattle.book.proofs.book.Book.rank.Goals as goal
 
 pub returns-then-t-teacher_count : goal.returns-then-t-teacher_count
