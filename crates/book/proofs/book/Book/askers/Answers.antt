@@ -1,4 +1,4 @@
-use Rattle.std.proofs.Common.{◌≡◌, ℕ, List, length, get_or, refl, ap, ◌∙◌, arith}
+use Rattle.std.proofs.Common.{◌≡◌, ℕ, List, length, get_or, refl, ap, ◌∙◌}
 use Rattle.matching.specs.Count.{bit}
 use Rattle.book.specs.Held.{book_model}
 use Rattle.book.specs.Reach.{reaches}

@@ -1,5 +1,4 @@
 use Rattle.std.proofs.Common.{None, sym, arith, rules}
-use Rattle.std.proofs.lemmas.List.{length-map}
 use Rattle.sheets.specs.Held.{model_of}
 use Rattle.book.specs.Held.{book_model, fixed_of, state_of}
 use Rattle.book.specs.Model.{offer_in}

@@ -1,4 +1,4 @@
-use Rattle.std.proofs.Common.{ℕ, length, get_or, ◌∙◌, arith, rules}
+use Rattle.std.proofs.Common.{ℕ, length, ◌∙◌, arith, rules}
 use Rattle.matching.specs.Count.{bit}
 use Rattle.book.specs.Reach.{reaches}
 use Rattle.book.proofs.Filled.{mapped}

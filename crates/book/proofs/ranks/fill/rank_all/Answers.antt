@@ -1,4 +1,4 @@
-use Rattle.std.proofs.Common.{ℕ, ◌+◌, ◌≤◌, map, length, arith}
+use Rattle.std.proofs.Common.{◌+◌, ◌≤◌, map, length, arith}
 use Rattle.std.proofs.lemmas.List.{length-map}
 use Rattle.market.specs.Tables.{person, band_in}
 use Rattle.sheets.specs.Model.{teacher_record}
