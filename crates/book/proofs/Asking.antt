@@ -1,8 +1,8 @@
 -- Ranks and offers that are read from a book.
-use Rattle.std.proofs.Common.{◌≡◌, ℕ, ◌+◌, ◌<◌, ◌≤◌, Bool, true, false, cond, not, ◌&&◌, eqb, ltb, leb, ◌≢◌, List, [], map, length, get_or, drop, set, replicate, Some, None, sym, refl, ap, ◌∙◌, ap₂, ⊎_elim, arith, get_or-set_other, get_or-set_same}
+use Rattle.std.proofs.Common.{◌≡◌, ℕ, ◌<◌, ◌≤◌, Bool, true, false, cond, not, ◌&&◌, eqb, ltb, leb, List, [], map, length, get_or, replicate, None, sym, refl, ap, ◌∙◌, ap₂, ⊎_elim, arith}
 use lib.ListN.{length-replicate}
-use Rattle.std.proofs.lemmas.List.{get_or_past, get_or-map, get_or-replicate, length-map, at_drop_more, at_drop_all}
-use Rattle.std.proofs.lemmas.Bool.{cases_lt, cases_eq, lt-ltb, le-ltb, cond-true, cond-false}
+use Rattle.std.proofs.lemmas.List.{get_or_past, get_or-map, get_or-replicate, length-map}
+use Rattle.std.proofs.lemmas.Bool.{cases_lt, lt-ltb, le-ltb, cond-true, cond-false}
 use Rattle.bounded.specs.Listed.{listed}
 use Rattle.bounded.specs.declared.list.BoundedList.{BoundedList}
 use Rattle.matching.specs.Groups.{told}
@@ -42,19 +42,6 @@ module _ (m : Model) (t l : ℕ) where
 
 -- ---- offers
 
-module _ (p : ℕ → Bool) (xs : List ℕ) (i : ℕ) where
-  pub first_hit : i < length xs → p (get_or xs i 0) ≡ true → first p (drop i xs) ≡ Some (get_or xs i 0)
-  unfolding first
-  first_hit h e = at_drop_more (first p) xs i 0 h ∙ cond-true _ _ _ e
-
-  pub first_miss : i < length xs → p (get_or xs i 0) ≡ false → first p (drop i xs) ≡ first p (drop (i + 1) xs)
-  unfolding first
-  first_miss h e = at_drop_more (first p) xs i 0 h ∙ cond-false _ _ _ e
-
-  pub first_none : length xs ≤ i → first p (drop i xs) ≡ None
-  unfolding first
-  first_none h = at_drop_all (first p) xs i h
-
 -- the stored pick list is the one by the wishes
 module _ (m : SheetsModel) (ranks : ℕ → ℕ → ℕ) (cuts : ℕ → ℕ) (posted : Bool) (t : ℕ) where
   abbrev pub book : Model
@@ -74,10 +61,6 @@ module _ (m : SheetsModel) (ranks : ℕ → ℕ → ℕ) (cuts : ℕ → ℕ) (p
       let n : length ps ≡ length m.teachers = sym (length-map ps listed) ∙ ap length e ∙ length-map m.teachers f in
       ap listed r ∙ sym (get_or-map listed ps t x [] (omega (arith, n))) ∙ ap (λ (xs : List (List ℕ)). get_or xs t []) e ∙ get_or-map f m.teachers t nobody [] h
       ∙ sym (ap₂ (pick_of m.posts) (person_at_lem h) (get_or-map (λ (y : TeacherRecord). y.wish) m.teachers t nobody [] h))
-
-  pub offer_is : (xs : List ℕ) → xs ≡ list → first (clears_in book t) xs ≡ offer_in book t
-  unfolding offer
-  offer_is xs e = ap (first (clears_in book t)) e
 
   -- past the teachers there is no offer
   pub no_list : length m.teachers ≤ t → list ≡ []
@@ -100,15 +83,6 @@ module _ {A : Type 0} (f : ℕ → A) (d : A) where
   pub each_none : (n : ℕ) → EachTo (replicate n d) 0
   each_none n t = ⊎_elim (λ (a : t < n). get_or-replicate n t d d a) (λ (b : n ≤ t). get_or_past (replicate n d) t d (omega (arith, length-replicate n d))) (cases_lt t n)
       ∙ sym (cond-false (ltb t 0) (f t) d (le-ltb t 0 (omega arith)))
-
-  pub each_more : (xs : List A) (i : ℕ) (x : A) → i < length xs → x ≡ f i → EachTo xs i → EachTo (set xs i x) (i + 1)
-  each_more xs i x h e s t = ⊎_elim
-      (λ (q : t ≡ i). ap (λ j. get_or (set xs i x) j d) q ∙ get_or-set_same xs i x d h ∙ e ∙ ap f (sym q) ∙ sym (cond-true (ltb t (i + 1)) (f t) d (lt-ltb t (i + 1) (omega arith))))
-      (λ (q : t ≢ i). get_or-set_other xs i t x d q ∙ s t ∙ ap (λ b. cond b (f t) d) (same t q))
-      (cases_eq t i)
-    where
-      same : (t : ℕ) → t ≢ i → ltb t i ≡ ltb t (i + 1)
-      same t q = ⊎_elim (λ (a : t < i). lt-ltb t i a ∙ sym (lt-ltb t (i + 1) (omega arith))) (λ (b : i ≤ t). le-ltb t i b ∙ sym (le-ltb t (i + 1) (omega arith))) (cases_lt t i)
 
   pub each_all : (xs : List A) (n : ℕ) → ((t : ℕ) → n ≤ t → f t ≡ d) → EachTo xs n → (t : ℕ) → get_or xs t d ≡ f t
   each_all xs n past s t = ⊎_elim

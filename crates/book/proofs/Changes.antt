@@ -1,11 +1,9 @@
 -- Changes of a book.
-use Rattle.std.proofs.Common.{◌≡◌, ℕ, ◌+◌, ◌<◌, ◌≤◌, Bool, true, false, ◌&&◌, leb, List, [], ◌∷◌, ◌++◌, map, length, get_or, take, replicate, sym, refl, ap, ◌∙◌, ap₂, ⊎_elim, arith}
+use Rattle.std.proofs.Common.{◌≡◌, ℕ, ◌<◌, ◌≤◌, Bool, true, false, ◌&&◌, leb, List, [], ◌∷◌, map, length, get_or, take, replicate, sym, refl, ap, ◌∙◌, ap₂, ⊎_elim, arith}
 use mathlib.Core.Path.{fun_ext}
 use lib.ListN.{length-replicate}
-use Rattle.std.proofs.lemmas.List.{get_or_past, get_or-replicate, take_all, map_push, map_more}
+use Rattle.std.proofs.lemmas.List.{get_or_past, get_or-replicate, take_all}
 use Rattle.std.proofs.lemmas.Bool.{cases_lt, and_parts, and_from}
-use Rattle.bounded.specs.Listed.{listed}
-use Rattle.bounded.specs.declared.list.BoundedList.{BoundedList}
 use Rattle.lines.specs.Entries.{within, distinct, further}
 use Rattle.matching.specs.Log.{opened}
 use Rattle.market.specs.Tables.{Person, person, pick_of, wishes_of}
@@ -59,11 +57,6 @@ picks_whole m h = by m.teachers refl
 pub map_record : (f : TeacherRecord → List ℕ) (ts : List Teacher) → map f (map teacher_record ts) ≡ map (λ (x : Teacher). f (teacher_record x)) ts
 map_record f [] = refl
 map_record f (t ∷ ts) = ap (λ l. f (teacher_record t) ∷ l) (map_record f ts)
-
-module _ (f : Teacher → List ℕ) (ts : List Teacher) (i : ℕ) (x : Teacher) (l : i < length ts) (old new : List (BoundedList 80)) (list : BoundedList 80) where
-  pub picks_more : map listed old ≡ map f (take i ts) → new ≡ old ++ list ∷ [] → listed list ≡ f (get_or ts i x) → map listed new ≡ map f (take (i + 1) ts)
-  picks_more e p q =
-      ap (map listed) p ∙ map_push listed old list ∙ ap₂ (λ xs (y : List ℕ). xs ++ y ∷ []) e q ∙ sym (map_more f ts i x l)
 
 -- ---- cutoffs
 

@@ -1,13 +1,11 @@
 -- The table of ranks, lane by lane.
-use Rattle.std.proofs.Common.{◌≡◌, ℕ, ◌+◌, ◌<◌, ◌≤◌, min, Bool, true, false, cond, ◌&&◌, eqb, ltb, ◌≢◌, List, [], map, length, get_or, set, replicate, sym, refl, ap, ◌∙◌, ap₂, ⊎_elim, arith, get_or-set_other, get_or-set_same}
+use Rattle.std.proofs.Common.{◌≡◌, ℕ, ◌+◌, ◌<◌, ◌≤◌, min, Bool, ◌≢◌, List, length, get_or, replicate, sym, ap, ◌∙◌, ⊎_elim, arith}
 use lib.ListN.{length-replicate}
-use Rattle.std.proofs.lemmas.List.{get_or_past, get_or-map}
-use Rattle.std.proofs.lemmas.Bool.{cases_lt, cases_eq, lt-ltb, le-ltb, eq-eqb, ne_eqb, cond-true, cond-false}
+use Rattle.std.proofs.lemmas.List.{get_or_past}
+use Rattle.std.proofs.lemmas.Bool.{cases_lt, cases_eq}
 use Rattle.matching.specs.Ranking.{people, rank_by, ranked}
 use Rattle.matching.proofs.Ranking.{behind_high, rank_none, rank_some, set_to_in, set_to_out}
-use Rattle.market.specs.Tables.{Tables, bands_of, no_lane}
-use Rattle.sheets.specs.declared.records.Lane.{Lane}
-use Rattle.sheets.specs.Model.{LaneRecord, lane_record}
+use Rattle.market.specs.Tables.{Tables, bands_of}
 use Rattle.book.specs.Model.{entry_in}
 use Rattle.book.proofs.Blanks.{zeros}
 

@@ -1,10 +1,11 @@
 -- What the result sheet tells, line by line.
-use Rattle.std.proofs.Common.{◌≡◌, ℕ, zero, suc, ◌+◌, ◌*◌, ◌<◌, ◌≤◌, Bool, true, false, eqb, ltb, ◌≢◌, List, [], ◌∷◌, ◌++◌, map, length, get_or, take, Some, vec_items, sym, refl, ap, ◌∙◌, ap₂, ⊎_elim, add-one, mul-suc, arith, length-append}
+use Rattle.std.proofs.Common.{◌≡◌, ℕ, zero, suc, ◌+◌, ◌*◌, ◌<◌, ◌≤◌, Bool, eqb, ltb, ◌≢◌, List, [], ◌∷◌, ◌++◌, map, length, get_or, take, Some, Ok, Err, Result, vec_items, sym, refl, ap, ◌∙◌, ap₂, ⊎_elim, add-one, mul-suc, arith, length-append}
 use Rattle.std.proofs.lemmas.List.{length-map, take_more, take_all}
 use Rattle.std.proofs.lemmas.List.FromFn.{sum_by-map-range_with_len_more}
 use Rattle.std.proofs.lemmas.List.Sums.{length-filter, sum_by_more}
 use Rattle.std.specs.List.{filter, range_with_len, sum_by, count_by}
 use Rattle.std.proofs.lemmas.Bool.{cases_lt, lt-ltb, ne_eqb, cond-true, cond-false}
+use Rattle.bounded.specs.declared.list.Full.{Full}
 use Rattle.bounded.specs.Listed.{listed, pushed}
 use Rattle.matching.specs.Count.{bit, count, sum_to}
 use Rattle.matching.specs.Log.{picks}
@@ -65,9 +66,9 @@ module _ (f : ℕ → ℕ) where
   row_more n = sym (ap (row f) (add-one n) ∙ row_suc n)
 
   -- one number pushed
-  pub row_push : (N n x : ℕ) (xs ys : List ℕ) (r : Bool) → xs ≡ row f n → n < N → x ≡ f n → ◌≡◌ {A = Bool × List ℕ} (r, ys) (pushed N xs x) → ys ≡ row f (n + 1)
+  pub row_push : (N n x : ℕ) (xs ys : List ℕ) (r : Result (Unit {0}) Full) → xs ≡ row f n → n < N → x ≡ f n → ◌≡◌ {A = Result (Unit {0}) Full × List ℕ} (r, ys) (pushed N xs x) → ys ≡ row f (n + 1)
   row_push N n x xs ys r e h d p =
-      ap (λ (q : Bool × List ℕ). q.1) (p ∙ cond-true (ltb (length xs) N) (true, xs ++ x ∷ []) (false, xs) (lt-ltb (length xs) N (omega (arith, ap length e, row_length n))))
+      ap (λ (q : Result (Unit {0}) Full × List ℕ). q.1) (p ∙ cond-true (ltb (length xs) N) (Ok tt, xs ++ x ∷ []) (Err (record {}), xs) (lt-ltb (length xs) N (omega (arith, ap length e, row_length n))))
       ∙ ap (λ l. l ++ x ∷ []) e ∙ ap (λ k. row f n ++ k ∷ []) d ∙ row_more n
 
 -- the entries of a list, in a row

@@ -7,7 +7,7 @@ use Rattle.std.specs.Result.{IsErrAnd}
 use Rattle.book.specs.declared.book.Book.{Book}
 use Rattle.book.specs.declared.book.trial.TrialRefusal.{TrialRefusal}
 use Rattle.book.specs.declared.book.trial.TrialRefusal.TheVariants.{NoLane, BadCutoff, BadRow as BadRowTried}
-use Rattle.book.specs.Askers.{asker_bytes, licensed_in, bad_row, asking, tried, trying, trial_left}
+use Rattle.book.specs.Askers.{asker_bytes, licensed_in, asking, tried, trying, trial_left}
 use Rattle.book.specs.Held.{book_model, fixed_of, state_of}
 use Rattle.book.specs.Model.{Model}
 

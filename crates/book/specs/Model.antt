@@ -1,5 +1,5 @@
 -- A round as the rules speak of it: what stays the same, and what changes. Lanes and teachers go by their index. Assumes nothing.
-use Rattle.std.specs.Prelude.{ℕ, suc, ◌+◌, min, Bool, true, false, cond, if◌then◌else◌, ◌&&◌, List, [], map, length, Ok, Err, Option, Result, ◌==◌, nat_lt, slice_index, slice_index_or}
+use Rattle.std.specs.Prelude.{ℕ, suc, ◌+◌, min, Bool, true, cond, if◌then◌else◌, ◌&&◌, List, [], map, length, Ok, Err, Option, Result, ◌==◌, nat_lt, slice_index, slice_index_or}
 use Rattle.matching.specs.Groups.{Group}
 use Rattle.matching.specs.Log.{State, opened, picks, put}
 use Rattle.matching.specs.Market.{Board, board_of, clears, offer}

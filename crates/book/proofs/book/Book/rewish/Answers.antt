@@ -1,24 +1,12 @@
-use Rattle.std.proofs.Common.{ℕ, ◌≤◌, length, get_or, vec_items, sym, ap, ◌∙◌, arith}
+use Rattle.std.proofs.Common.{ℕ, ◌≤◌, length, get_or, vec_items, ap, arith}
 use lib.ListN.{length-replicate}
 use Rattle.std.proofs.lemmas.List.{length-map}
 use Rattle.std.proofs.lemmas.Result.{err_from_is_err_and}
 use Rattle.sheets.specs.Held.{model_of}
-use Rattle.sheets.specs.Model.{SheetsModel, lane_record}
-use Rattle.book.specs.Model.{picks_of}
+use Rattle.sheets.specs.Model.{lane_record}
 use Rattle.book.proofs.Changes.{ones}
-use Rattle.book.proofs.Wishing.{said_yes, said_no, wished_yes, wished_no, picks_long, after_in, picks_after, teacher_in}
+use Rattle.book.proofs.Wishing.{said_yes, said_no, wished_yes, wished_no, picks_after}
 use Rattle.book.proofs.book.Book.rewish.Goals as goal
-
-pub invariant_of-self : goal.invariant_of-self
-invariant_of-self c =
-    let m = model_of c.args.self.now.sheets in
-    let same = said_no m c.args.t c.args.wishes.now c.in_err-rewish.field-0.0 (model_of c.rewish.new.self) c.in_err-rewish.ensures in
-    record {
-      room = c.args.self.now.room;
-      sized = c.args.self.now.sized ∙ ap (λ (x : SheetsModel). length x.posts.lanes) (sym same);
-      low = c.args.self.now.low;
-      picked = c.args.self.now.picked ∙ ap picks_of (sym same);
-    }
 
 pub returns-in_err-rewish : goal.returns-in_err-rewish
 returns-in_err-rewish c =
@@ -27,23 +15,6 @@ returns-in_err-rewish c =
     let n = model_of c.rewish.new.self in
     let p = err_from_is_err_and c.from_residual.result c.from_residual.ensures.1 in
     rw (p.1, p.2) (wished_no m c.args.t c.args.wishes.now (vec_items c.args.self.now.ranks.table) (λ l. get_or (vec_items c.args.self.now.cutoffs) l 1) c.args.self.now.posted x n c.in_err-rewish.ensures (said_no m c.args.t c.args.wishes.now x n c.in_err-rewish.ensures))
-
-pub bounds-teachers-t : goal.bounds-teachers-t
-bounds-teachers-t c =
-    let b = c.args.self.now in
-    let m = model_of b.sheets in
-    let n = model_of c.rewish.new.self in
-    let s = said_yes m c.args.t c.args.wishes.now n c.in_ok-rewish.ensures in
-    let few : length m.posts.lanes ≤ 80 = omega (arith, length-map (vec_items b.sheets.lanes) lane_record, b.sheets.few.0, b.sheets.lanes.ok.0) in
-    after_in m c.args.t c.args.wishes.now s.0 few (vec_items b.picks) b.picked n s.1 c.teachers.result.now c.teachers.ensures.value
-
-pub index_mut-requires : goal.index_mut-requires
-index_mut-requires c =
-    let b = c.args.self.now in
-    let m = model_of b.sheets in
-    let s = said_yes m c.args.t c.args.wishes.now (model_of c.rewish.new.self) c.in_ok-rewish.ensures in
-    let few : length m.posts.lanes ≤ 80 = omega (arith, length-map (vec_items b.sheets.lanes) lane_record, b.sheets.few.0, b.sheets.lanes.ok.0) in
-    omega (arith, b.picks.ok.0, picks_long m c.args.t c.args.wishes.now s.0 few (vec_items b.picks) b.picked, teacher_in m c.args.t c.args.wishes.now s.0)
 
 pub invariant_of-self-2 : goal.invariant_of-self-2
 invariant_of-self-2 c =

@@ -1,10 +1,9 @@
-use Rattle.std.proofs.Common.{◌≡◌, ℕ, ◌<◌, length, get_or, take, Some, None, Option, IfSome, sym, ap, ◌∙◌, subst, refl, arith}
+use Rattle.std.proofs.Common.{◌≡◌, ℕ, ◌<◌, get_or, take, Some, None, Option, IfSome, sym, ap, ◌∙◌, refl, arith}
 use Rattle.std.proofs.lemmas.List.{get_or-take, length-take}
 use Rattle.bounded.specs.Listed.{listed}
 use Rattle.book.specs.Held.{book_model}
 use Rattle.book.specs.Model.{offer_in}
-use Rattle.book.specs.Result.{row, seat}
-use Rattle.book.specs.declared.book.Book.{Book}
+use Rattle.book.specs.Result.{seat}
 use Rattle.book.proofs.Results.{row_none, row_push, few_lanes, offer_inside}
 use Rattle.book.proofs.book.Book.seats.Goals as goal
 

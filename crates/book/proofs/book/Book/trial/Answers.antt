@@ -6,25 +6,8 @@ use Rattle.book.specs.declared.book.trial.TrialRefusal.{TrialRefusal}
 use Rattle.book.specs.declared.book.trial.TrialRefusal.TheVariants.{BadRow}
 use Rattle.book.specs.Held.{book_model}
 use Rattle.book.proofs.Reaching.{marks_tried}
-use Rattle.book.proofs.Trying.{restored, low_back, left_back, trying_no_lane, trying_cutoff, trying_row, trying_ok, refused}
+use Rattle.book.proofs.Trying.{restored, left_back, trying_cutoff, trying_row, trying_ok, refused}
 use Rattle.book.proofs.book.Book.trial.Goals as goal
-
-pub returns-then-l-len : goal.returns-then-l-len
-returns-then-l-len c =
-    let b = c.args.self.now in
-    left_back b (vec_items b.cutoffs) refl c.args.l c.args.tried c.args.row.now _ (trying_no_lane (book_model b) c.args.l c.args.tried c.args.row.now (omega (arith, c.len.ensures, b.sized)))
-
-pub invariant_of-self : goal.invariant_of-self
-invariant_of-self c =
-    let b = c.args.self.now in
-    let v = c.drop-guard.new.self.0 in
-    let e : vec_items v ≡ vec_items b.cutoffs = c.drop-guard.ensures.value ∙ restored (vec_items b.cutoffs) c.args.l c.args.tried c.index-old.result.now c.index-old.ensures in
-    record {
-      room = (b.room.0, omega (arith, c.drop-guard.ensures.capacity, b.room.1));
-      sized = omega (arith, v.ok.0, ap length e, b.sized, b.cutoffs.ok.0);
-      low = low_back b (vec_items v) e;
-      picked = b.picked;
-    }
 
 pub returns-then-not-may_try : goal.returns-then-not-may_try
 returns-then-not-may_try c =
@@ -35,18 +18,6 @@ returns-then-not-may_try c =
     let bytes : List ℕ = c.args.row.now in
     let inside : c.args.l < length m.0.posts.lanes = omega (arith, c.len.ensures, b.sized) in
     left_back b (vec_items v) e c.args.l c.args.tried bytes _ (trying_cutoff m c.args.l c.args.tried bytes inside (ap (λ n. within c.args.tried (suc n)) (sym c.licensed-licensed.ensures.value) ∙ sym c.if-not-may_try.ensures))
-
-pub invariant_of-self-in_err-check_row : goal.invariant_of-self-in_err-check_row
-invariant_of-self-in_err-check_row c =
-    let b = c.args.self.now in
-    let v = c.drop-guard-in_err-check_row.new.self.0 in
-    let e : vec_items v ≡ vec_items b.cutoffs = c.drop-guard-in_err-check_row.ensures.value ∙ restored (vec_items b.cutoffs) c.args.l c.args.tried c.index-old.result.now c.index-old.ensures in
-    record {
-      room = (b.room.0, omega (arith, c.drop-guard-in_err-check_row.ensures.capacity, b.room.1));
-      sized = omega (arith, v.ok.0, ap length e, b.sized, b.cutoffs.ok.0);
-      low = low_back b (vec_items v) e;
-      picked = b.picked;
-    }
 
 pub returns-in_err-check_row : goal.returns-in_err-check_row
 returns-in_err-check_row c =
@@ -60,18 +31,6 @@ returns-in_err-check_row c =
     left_back b (vec_items v) e c.args.l c.args.tried bytes (c.from_residual.result, bytes)
     (ap (λ (r : Result (Unit {0}) TrialRefusal). (r, bytes)) (refused c.from_residual.result BadRow c.from_residual.ensures.1)
     ∙ trying_row m c.args.l c.args.tried bytes inside (ap (λ n. within c.args.tried (suc n)) (sym c.licensed-licensed.ensures.value) ∙ sym c.if-not-may_try.ensures) other)
-
-pub invariant_of-self-2 : goal.invariant_of-self-2
-invariant_of-self-2 c =
-    let b = c.args.self.now in
-    let v = c.drop-guard-2.new.self.0 in
-    let e : vec_items v ≡ vec_items b.cutoffs = c.drop-guard-2.ensures.value ∙ restored (vec_items b.cutoffs) c.args.l c.args.tried c.index-old.result.now c.index-old.ensures in
-    record {
-      room = (b.room.0, omega (arith, c.drop-guard-2.ensures.capacity, b.room.1));
-      sized = omega (arith, v.ok.0, ap length e, b.sized, b.cutoffs.ok.0);
-      low = low_back b (vec_items v) e;
-      picked = b.picked;
-    }
 
 pub returns : goal.returns
 returns c =
