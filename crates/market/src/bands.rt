@@ -26,7 +26,7 @@ fn band(p: &Teacher, subject: u16) -> u8
     }
 }
 
-// The band, or 0 for a teacher who is not licensed.
+// The band, or 0 for a teacher who is not licensed: a lane's bands are one number a teacher, so no Option.
 fn band_in(p: &Teacher, subject: u16) -> u8
     ensures { result ≡ band_in subject (person (teacher_record p.now)) }
 {
@@ -45,6 +45,7 @@ fn band_at(teachers: &[Teacher], t: usize, subject: u16) -> u8
 }
 
 // The bands of the teachers in a lane of the subject, one byte a teacher; bytes past the teachers are 0.
+// An array and no Vec: memory is had once before a round, and no call allocates.
 pub fn bands_of(teachers: &[Teacher], subject: u16) -> [u8; 200]
     ensures { length teachers.now ≤ 200 → take (length teachers.now) result ≡ map (band_in subject) (map person (map teacher_record teachers.now)) }
 {
