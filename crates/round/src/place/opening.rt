@@ -61,10 +61,8 @@ impl<S: Standing, L: Limit> Place<S, L> {
         ensures calls { calls_of entries.new ≡ calls_of entries.old }
         ensures answers { AnsweredTo (L.Limit.family self.old.limit) (book_model self.old.book) (calls_of entries.old) (length (calls_of entries.old)) (answers_of entries.new) }
     {
-        for i in 0..entries.len() {
-            let call = entries[i].call;
-            let answer = self.carry_out(call);
-            entries[i].answer = answer;
+        for entry in entries.iter_mut() {
+            entry.answer = Some(self.carry_out(entry.call));
         }
     }
 
