@@ -1,5 +1,5 @@
 -- What each call answers and leaves, case by case.
-use Rattle.std.proofs.Common.{◌≡◌, ℕ, zero, suc, ◌+◌, ◌-◌, ◌<◌, ◌≤◌, Bool, true, false, cond, ◌&&◌, ltb, ◌≢◌, ◌⊎◌, Some, None, Ok, Err, Option, Result, sym, refl, ap, ◌∙◌, ap₂, inl, inr, add-zero, one-add, arith}
+use Rattle.std.proofs.Common.{◌≡◌, ℕ, zero, suc, ◌+◌, ◌-◌, ◌<◌, ◌≤◌, Bool, true, false, cond, ◌&&◌, ltb, ◌≢◌, ◌⊎◌, Some, None, Ok, Err, Option, Result, sym, refl, ap, ◌∙◌, inl, inr, add-zero, one-add, arith}
 use mathlib.Core.Path.{fun_ext}
 use Rattle.std.proofs.lemmas.Bool.{cond-true, cond-false, and_left, and_right, not_from_false, cases_eq, cases_lt, cases_Bool, lt-ltb, le-ltb, eq-eqb, ne_eqb}
 use Rattle.matching.specs.Count.{count, sum_to}
@@ -13,16 +13,8 @@ use Rattle.round.specs.declared.answers.Refusal.{Refusal}
 use Rattle.round.specs.declared.answers.Refusal.TheVariants.{Posted}
 use Rattle.round.specs.declared.answers.Settled.{Settled}
 use Rattle.round.specs.Calls.{over_in, next_in, any_over, still_open, sweep_call, settled_in, presses_in, settle_call}
-use Rattle.round.specs.Held.{PlaceModel, on_place}
 use Rattle.round.specs.Loops.{settle_out, more_presses, up_to, swept_to}
 use Rattle.round.proofs.Over.{bumped, over_inside, over_past}
-
--- what a call of the round does to the place
-pub placed : {A S L : Type 0} (family : L → ℕ → Group → Bool) (call : (ℕ → Group → Bool) → Model → A × Model) (p : PlaceModel S L) (a : A) (n : Model)
-    → ◌≡◌ {A = A × Model} (a, n) (call (family p.limit) p.round)
-    → ◌≡◌ {A = A × PlaceModel S L} (a, record { standing = p.standing; limit = p.limit; round = n }) (on_place family call p)
-placed {A = A} {S = S} {L = L} family call p a n e =
-    let f : A × Model → A × PlaceModel S L = λ r. (r.0, record { standing = p.standing; limit = p.limit; round = r.1 }) in ap f e
 
 -- a call goes on only where the round is not posted
 pub goes_on : (m : Model) (u : Unit {0}) → ◌≡◌ {A = Result (Unit {0}) Refusal} (Ok u) (still_open m) → m.1.posted ≡ false
@@ -149,12 +141,6 @@ module _ (family : ℕ → Group → Bool) where
       whole : (k : ℕ) → (over_in family m k ≡ true) ⊎ (over_in family m k ≡ false) → up_to (over_in family m) i k ≡ over_in family m k
       whole k (inl o) = ap (λ b. b && over_in family m k) (lt-ltb k i (omega (arith, over_inside family m k o)))
       whole k (inr o) = and_right (ltb k i) _ o ∙ sym o
-
--- the standing and the limit stay
-pub same_place : {A S L : Type 0} (a : A) (s s' : S) (l l' : L) (n : Model) → s ≡ s' → l ≡ l'
-    → ◌≡◌ {A = A × PlaceModel S L} (a, record { standing = s; limit = l; round = n }) (a, record { standing = s'; limit = l'; round = n })
-same_place {A = A} {S = S} {L = L} a s s' l l' n p q =
-    ap₂ {C = A × PlaceModel S L} (λ (x : S) (y : L). (a, record { standing = x; limit = y; round = n })) p q
 
 pub count_none : (p : ℕ → Bool) → count p 0 ≡ 0
 unfolding sum_to

@@ -1,6 +1,5 @@
 // What a call asks first, and over-asked lanes.
-ghost use Rattle.std.specs.Prelude.{◌≡◌, ℕ, ◌<◌, ◌≤◌, true, false, cond, length, None, slice_index_or};
-ghost use Rattle.matching.specs.Log.{within};
+ghost use Rattle.std.specs.Prelude.{◌≡◌, ℕ, ◌≤◌, false, length, None, slice_index_or};
 ghost use Rattle.book.specs.Held.{book_model};
 ghost use Rattle.book.specs.Model.{offer_in};
 ghost use Rattle.round.specs.Calls.{over_in, next_in, index_of, still_open};
@@ -49,6 +48,7 @@ impl<S: Standing, L: Limit> Place<S, L> {
     }
 
     // Do those who are offered the lane at the index not fit? The limit is asked with the row of its askers.
+    #[tactic(auto, unfolding(matching::specs::Market::over_asked))]
     fn is_crowded(&self, offers: &[Option<u16>], l: usize) -> bool
         requires long { length offers.now ≤ 200 }
         requires each { (t : ℕ) → slice_index_or offers.now t None ≡ offer_in (book_model self.now.book) t }

@@ -1,11 +1,10 @@
 // Making a place, opening it, and carrying out a log.
-ghost use Rattle.std.specs.Prelude.{◌≡◌, map, length};
+ghost use Rattle.std.specs.Prelude.{◌≡◌, length};
 ghost use Rattle.book.specs.Held.{book_model};
 ghost use Rattle.book.specs.Model.{unopened};
 ghost use Rattle.sheets.specs.Held.{model_of};
 ghost use Rattle.sheets.specs.Read.{sheets_of};
-ghost use Rattle.round.specs.Calls.{left};
-ghost use Rattle.round.specs.Held.{place_of, on_place, PlaceModel};
+ghost use Rattle.round.specs.Held.{place_of, on_place};
 ghost use Rattle.round.specs.Log.{call_of, answer_call, open_call, desk_left};
 ghost use Rattle.round.specs.Promise.{calls_of, answers_of, LogKept, LogWritten};
 ghost use Rattle.round.specs.Running.{ran_place, AnsweredTo};

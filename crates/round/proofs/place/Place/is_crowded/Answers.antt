@@ -1,12 +1,7 @@
-use Rattle.std.proofs.Common.{not, sym, ap, ◌∙◌, arith}
+use Rattle.std.proofs.Common.{not, ap, ◌∙◌, arith}
 use Rattle.book.specs.Held.{book_model}
-use Rattle.round.proofs.Over.{crowded_is, over_past}
+use Rattle.round.proofs.Over.{crowded_is}
 use Rattle.round.proofs.place.Place.is_crowded.Goals as goal
-
-pub returns-then-l-lane_count : goal.returns-then-l-lane_count
-returns-then-l-lane_count g c =
-    let p = c.args.self.now in
-    sym (over_past (g.L.Limit.family p.limit) (book_model p.book) c.args.l (omega (arith, c.lane_count.ensures.value)))
 
 pub returns : goal.returns
 returns g c =

@@ -1,13 +1,13 @@
 use Rattle.std.proofs.Common.{◌≡◌, ◌≤◌, true, false, sym, refl, ap, ◌∙◌, arith}
 use Rattle.matching.proofs.Ranking.{count_yes, count_no}
+use Rattle.std.proofs.lemmas.Grind.{common_steps}
 use Rattle.book.proofs.Results.{few_lanes}
 use Rattle.book.specs.Held.{book_model}
 use Rattle.book.specs.Model.{Model, lifted}
-use Rattle.round.specs.Calls.{sweep_call, over_in}
-use Rattle.round.specs.Held.{place_of}
+use Rattle.round.specs.Calls.{over_in}
 use Rattle.round.specs.Loops.{swept_to}
 use Rattle.round.proofs.Over.{over_inside, book_cut, lifted_bumped}
-use Rattle.round.proofs.Answering.{placed, same_place, count_none, goes_on, sweep_done, swept_start, swept_cut, swept_yes, swept_no}
+use Rattle.round.proofs.Answering.{count_none, goes_on, sweep_done, swept_start, swept_cut, swept_yes, swept_no}
 use Rattle.round.proofs.place.Place.sweep.Goals as goal
 use Rattle.round.proofs.place.Place.sweep.Goals.{then-over, else-over}
 
@@ -41,8 +41,7 @@ loop-l-preserved g c =
 pub returns : goal.returns
 returns g c =
     let p = c.args.self.now in
-    let q = c.loop-l.self in
-    let family = g.L.Limit.family p.limit in
-    same_place _ q.standing p.standing q.limit p.limit (book_model q.book) c.loop-l.invariant.3 c.loop-l.invariant.4
-    ∙ placed g.L.Limit.family (λ family. sweep_call family) (place_of p) _ _
-    (sweep_done family (book_model p.book) (book_model q.book) c.loop-l.l c.loop-l.raised (goes_on (book_model p.book) c.in_ok-must_be_open.field-0 c.in_ok-must_be_open.ensures) (omega (arith, few_lanes p.book)) c.loop-l.invariant.0 c.loop-l.invariant.1)
+    let m = book_model p.book in
+    let free = goes_on m c.in_ok-must_be_open.field-0 c.in_ok-must_be_open.ensures in
+    let done = sweep_done (g.L.Limit.family p.limit) m (book_model c.loop-l.self.book) c.loop-l.l c.loop-l.raised free (omega (arith, few_lanes p.book)) c.loop-l.invariant.0 c.loop-l.invariant.1 in
+    grind (arith, common_steps)
