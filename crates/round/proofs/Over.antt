@@ -107,7 +107,7 @@ module _ (b : Book) where
 -- ---- the first over-asked lane
 
 module _ (p : ℕ → Bool) where
-  pub least_start : least p 0 ≡ None
+  least_start : least p 0 ≡ None
   unfolding least
   least_start = refl
 
@@ -125,7 +125,7 @@ module _ (p : ℕ → Bool) where
   least_stays m k (suc d) h = let e : m + suc d ≡ suc (m + d) = omega arith in
       ap (least p) e ∙ ap (λ o. on_some o (cond (p (m + d)) (Some (m + d)) None) (λ k. Some k)) (least_stays m k d h)
 
-  pub least_hit : (i n : ℕ) → least p i ≡ None → p i ≡ true → i < n → least p n ≡ Some i
+  least_hit : (i n : ℕ) → least p i ≡ None → p i ≡ true → i < n → least p n ≡ Some i
   least_hit i n h e k = let q : n ≡ suc i + (n - suc i) = omega arith in ap (least p) q ∙ least_stays (suc i) i (n - suc i) (least_next i true h e)
 
   -- the first number of a range that passes
