@@ -1,5 +1,5 @@
 -- A log, call by call, and what holds at each of its lines.
-use Rattle.std.proofs.Common.{◌≡◌, ℕ, ◌+◌, ◌<◌, Bool, true, cond, ◌≢◌, List, [], length, get_or, take, set, Ok, Err, Result, sym, refl, ap, ◌∙◌, ap₂, ⊎_elim, arith, get_or-set_other, get_or-set_same}
+use Rattle.std.proofs.Common.{◌≡◌, ℕ, ◌+◌, ◌<◌, Bool, true, cond, ◌≢◌, List, [], length, get_or, take, set, Some, None, Ok, Err, Option, Result, sym, refl, ap, ◌∙◌, ap₂, ⊎_elim, arith, get_or-set_other, get_or-set_same}
 use mathlib.Core.Path.{fun_ext}
 use Rattle.std.proofs.lemmas.List.{take_more, get_or-map, length-map, map-set, set-get_or}
 use Rattle.std.proofs.lemmas.Bool.{cases_eq}
@@ -19,7 +19,6 @@ use Rattle.sheets.specs.Read.{sheets_of}
 use Rattle.sheets.proofs.Canonical.{canonical}
 use Rattle.book.specs.Model.{Model, anyone, board_in, opening}
 use Rattle.round.specs.declared.log.Answer.{Answer}
-use Rattle.round.specs.declared.log.Answer.TheVariants.{Pending}
 use Rattle.round.specs.declared.log.Entry.{Entry}
 use Rattle.round.specs.Calls.{left}
 use Rattle.round.specs.Held.{PlaceModel, on_place}
@@ -62,14 +61,14 @@ module _ (es : List Entry) (i : ℕ) (d x : Entry) (h : i < length es) where
   calls_stay e =
       map-set (λ (y : Entry). call_of y.call) es i x ∙ ap (set (calls_of es) i) (e ∙ sym call_read) ∙ set-get_or (calls_of es) i post
 
-  pub answers_more : (family : ℕ → Group → Bool) (m : Model) (cs : List Call) → AnsweredTo family m cs i (answers_of es) → x.answer ≡ answer_to family (get_or cs i post) (ran family m (take i cs))
+  pub answers_more : (family : ℕ → Group → Bool) (m : Model) (cs : List Call) → AnsweredTo family m cs i (answers_of es) → x.answer ≡ Some (answer_to family (get_or cs i post) (ran family m (take i cs)))
       → AnsweredTo family m cs (i + 1) (answers_of (set es i x))
   answers_more family m cs s e k l =
-      ap (λ (xs : List Answer). get_or xs k Pending) (map-set (λ (y : Entry). y.answer) es i x)
+      ap (λ (xs : List (Option Answer)). get_or xs k None) (map-set (λ (y : Entry). y.answer) es i x)
       ∙ ⊎_elim
-      (λ (q : k ≡ i). ap (λ j. get_or (set (answers_of es) i x.answer) j Pending) q ∙ get_or-set_same (answers_of es) i x.answer Pending (omega (arith, length-map es (λ (y : Entry). y.answer)))
-      ∙ e ∙ ap (λ j. answer_to family (get_or cs j post) (ran family m (take j cs))) (sym q))
-      (λ (q : k ≢ i). get_or-set_other (answers_of es) i k x.answer Pending q ∙ s k (omega arith))
+      (λ (q : k ≡ i). ap (λ j. get_or (set (answers_of es) i x.answer) j None) q ∙ get_or-set_same (answers_of es) i x.answer None (omega (arith, length-map es (λ (y : Entry). y.answer)))
+      ∙ e ∙ ap (λ j. Some (answer_to family (get_or cs j post) (ran family m (take j cs)))) (sym q))
+      (λ (q : k ≢ i). get_or-set_other (answers_of es) i k x.answer None q ∙ s k (omega arith))
       (cases_eq k i)
 
 -- ---- the board of an opened round is that of the market
@@ -124,8 +123,8 @@ module _ {S L : Type 0} (ahead : S → ℕ → ℕ → ℕ → Bool) (family : L
               lines = λ j _. line_keeps (ahead p.standing) (family p.limit) m P d.ranges (take j (calls_of es));
               last = ap (λ (x : PlaceModel S L). x.round) f ∙ ap (λ (x : PlaceModel S L). ran (family x.limit) x.round (calls_of es)) is ∙ round_is (ahead p.standing) (family p.limit) m (calls_of es);
               answered = λ j l. answers j l
-                  ∙ ap (λ (x : PlaceModel S L). answer_to (family x.limit) (get_or (calls_of es) j post) (ran (family x.limit) x.round (take j (calls_of es)))) is
-                  ∙ ap (answer_to (family p.limit) (get_or (calls_of es) j post)) (round_is (ahead p.standing) (family p.limit) m (take j (calls_of es)));
+                  ∙ ap (λ (x : PlaceModel S L). Some (answer_to (family x.limit) (get_or (calls_of es) j post) (ran (family x.limit) x.round (take j (calls_of es))))) is
+                  ∙ ap (λ (y : Model). Some (answer_to (family p.limit) (get_or (calls_of es) j post) y)) (round_is (ahead p.standing) (family p.limit) m (take j (calls_of es)));
             };
           }
 

@@ -21,6 +21,14 @@ refusal_number BadCutoff = 15
 refusal_number NotLicensed = 16
 refusal_number BadRow = 17
 
+-- the index, from 0, of the number n, which counts from 1 to the last; or the refusal
+abbrev pub index_of : ℕ → ℕ → Refusal → Result ℕ Refusal
+index_of n last refusal = cond (within n last) (Ok (n - 1)) (Err refusal)
+
+-- a round that is posted is closed to the calls
+abbrev pub still_open : Model → Result (Unit {0}) Refusal
+still_open m = cond m.1.posted (Err Posted) (Ok tt)
+
 -- under a limit with this meaning
 module _ (family : ℕ → Group → Bool) where
   -- lane, from 0: its askers do not fit

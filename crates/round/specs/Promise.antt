@@ -1,5 +1,5 @@
 -- The promise, of any log of a round that two sheets open, under any standing and any limit. Assumes nothing.
-use Rattle.std.specs.Prelude.{◌≡◌, ℕ, ◌<◌, ◌≤◌, Bool, List, map, length, take, Ok, Err, Result, slice_index_or}
+use Rattle.std.specs.Prelude.{◌≡◌, ℕ, ◌<◌, ◌≤◌, Bool, List, map, length, take, Some, None, Ok, Err, Option, Result, slice_index_or}
 use Rattle.lines.specs.declared.faults.Fault.{Fault}
 use Rattle.matching.specs.Groups.{Group}
 use Rattle.matching.specs.Log.{Call, post, State, opened, line}
@@ -12,16 +12,15 @@ use Rattle.market.specs.Tables.{tables_of, wishes_of, market_of}
 use Rattle.book.specs.Model.{Model, opening}
 use Rattle.book.specs.Rewritten.{sheets_in, posts_in, staff_in}
 use Rattle.round.specs.declared.log.Answer.{Answer}
-use Rattle.round.specs.declared.log.Answer.TheVariants.{Pending}
 use Rattle.round.specs.declared.log.Entry.{Entry}
 use Rattle.round.specs.Held.{PlaceModel}
 use Rattle.round.specs.Log.{call_of, answer_to}
 
--- the calls of the entries, and their answers
+-- the calls of the entries, and their answers; none where the call has not been carried out
 abbrev pub calls_of : List Entry → List Call
 calls_of es = map (λ (e : Entry). call_of e.call) es
 
-abbrev pub answers_of : List Entry → List Answer
+abbrev pub answers_of : List Entry → List (Option Answer)
 answers_of es = map (λ (e : Entry). e.answer) es
 
 module _ (ahead : ℕ → ℕ → ℕ → Bool) (family : ℕ → Group → Bool) (m : SheetsModel) where
@@ -38,7 +37,7 @@ module _ (ahead : ℕ → ℕ → ℕ → Bool) (family : ℕ → Group → Bool
   round_after cs = ((opening ahead m).0, line_after cs)
 
 -- the two sheets opened the round, the calls were carried out one by one, and this is what they answered and the round at the end
-pub record Logged (ahead : ℕ → ℕ → ℕ → Bool) (family : ℕ → Group → Bool) (posts staff : List ℕ) (cs : List Call) (answers : List Answer) (end : Model) : Type 0 where
+pub record Logged (ahead : ℕ → ℕ → ℕ → Bool) (family : ℕ → Group → Bool) (posts staff : List ℕ) (cs : List Call) (answers : List (Option Answer)) (end : Model) : Type 0 where
   -- what the two sheets describe
   pub model : SheetsModel
   pub described : Describes posts staff model
@@ -47,7 +46,7 @@ pub record Logged (ahead : ℕ → ℕ → ℕ → Bool) (family : ℕ → Group
   -- the round at the end is the last line's
   pub last : end ≡ round_after ahead family model cs
   -- each call was answered by the round at the line before it
-  pub answered : (k : ℕ) → k < length cs → slice_index_or answers k Pending ≡ answer_to family (slice_index_or cs k post) (round_after ahead family model (take k cs))
+  pub answered : (k : ℕ) → k < length cs → slice_index_or answers k None ≡ Some (answer_to family (slice_index_or cs k post) (round_after ahead family model (take k cs)))
 
 -- what keeping a log leaves: the log of the round that the sheets describe; or their fault, and then nothing has changed
 module _ {S L : Type 0} (ahead : S → ℕ → ℕ → ℕ → Bool) (family : L → ℕ → Group → Bool) (posts staff : List ℕ) (before after : PlaceModel S L) (asked done : List Entry) where

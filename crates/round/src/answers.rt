@@ -1,35 +1,33 @@
 // What the calls answer.
 ghost use Rattle.std.specs.Prelude.{◌≡◌};
 ghost use Rattle.round.specs.Calls.{refusal_number};
+ghost use Rattle.round.specs.Trials.{refusal_of};
 
-// Why a call is denied.
-#[derive(Clone, Copy)]
+use book::TrialRefusal;
+use std::error::Error;
+use std::fmt;
+
+// Why a call is denied, with the number under which it is shown.
+#[derive(Clone, Copy, Debug, PartialEq, Eq)]
 pub enum Refusal {
     // the round is posted, or none is opened
-    Posted,
+    Posted = 9,
     // no such teacher
-    NoTeacher,
+    NoTeacher = 10,
     // more than 12 wishes, a school outside the round, or one named twice
-    BadWishes,
+    BadWishes = 11,
     // no such lane
-    NoLane,
+    NoLane = 12,
     // the lane is not over-asked
-    NotOverAsked,
+    NotOverAsked = 13,
     // a lane is over-asked
-    OverAsked,
+    OverAsked = 14,
     // a tried cutoff of 0, or more than one above the lane's licensed teachers
-    BadCutoff,
+    BadCutoff = 15,
     // the teacher is not licensed for the lane
-    NotLicensed,
+    NotLicensed = 16,
     // a row that has not one byte a teacher
-    BadRow,
-}
-
-// The presses that settle made, and whether a lane is still over-asked.
-#[derive(Clone, Copy)]
-pub struct Settled {
-    pub presses: u32,
-    pub over: bool,
+    BadRow = 17,
 }
 
 impl Refusal {
@@ -37,16 +35,45 @@ impl Refusal {
     pub fn number(self) -> u8
         ensures { result ≡ refusal_number self }
     {
-        match self {
-            Refusal::Posted => 9,
-            Refusal::NoTeacher => 10,
-            Refusal::BadWishes => 11,
-            Refusal::NoLane => 12,
-            Refusal::NotOverAsked => 13,
-            Refusal::OverAsked => 14,
-            Refusal::BadCutoff => 15,
-            Refusal::NotLicensed => 16,
-            Refusal::BadRow => 17,
+        self as u8
+    }
+}
+
+impl fmt::Display for Refusal {
+    // Why the call is denied, in words.
+    fn fmt<W: fmt::Write>(&self, f: &mut fmt::Formatter<W>) -> fmt::Result {
+        f.write_str(match self {
+            Refusal::Posted => "the round is posted",
+            Refusal::NoTeacher => "there is no such teacher",
+            Refusal::BadWishes => "too many schools, one that does not exist, or one named twice",
+            Refusal::NoLane => "there is no such lane",
+            Refusal::NotOverAsked => "the lane is not over-asked",
+            Refusal::OverAsked => "a lane is over-asked",
+            Refusal::BadCutoff => "no such cutoff can be tried in the lane",
+            Refusal::NotLicensed => "the teacher has no licence for the lane",
+            Refusal::BadRow => "the row has not one byte a teacher",
+        })
+    }
+}
+
+impl Error for Refusal {}
+
+impl From<TrialRefusal> for Refusal {
+    ghost from_gives = { λ refusal made. made ≡ refusal_of refusal };
+
+    // The refusal of a trial, as the calls of a place have it.
+    fn from(refusal: TrialRefusal) -> Refusal {
+        match refusal {
+            TrialRefusal::NoLane => Refusal::NoLane,
+            TrialRefusal::BadCutoff => Refusal::BadCutoff,
+            TrialRefusal::BadRow => Refusal::BadRow,
         }
     }
+}
+
+// The presses that settle made, and whether a lane is still over-asked.
+#[derive(Clone, Copy, Debug, PartialEq, Eq)]
+pub struct Settled {
+    pub presses: u32,
+    pub over: bool,
 }

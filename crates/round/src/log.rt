@@ -2,7 +2,7 @@
 use crate::answers::{Refusal, Settled};
 
 // A call, with the numbers that it names.
-#[derive(Clone, Copy)]
+#[derive(Clone, Copy, Debug, PartialEq, Eq)]
 pub enum Command<'a> {
     Wish(u16, &'a [u16]),
     Press(u16),
@@ -11,10 +11,9 @@ pub enum Command<'a> {
     Post,
 }
 
-// What a call answered; nothing while it has not been carried out.
-#[derive(Clone, Copy)]
+// What a call answered.
+#[derive(Clone, Copy, Debug, PartialEq, Eq)]
 pub enum Answer {
-    Pending,
     Wish(Result<(), Refusal>),
     Press(Result<(), Refusal>),
     Sweep(Result<u16, Refusal>),
@@ -22,9 +21,9 @@ pub enum Answer {
     Post(Result<(), Refusal>),
 }
 
-// A line of a log: a call, and the place for its answer.
-#[derive(Clone, Copy)]
+// A line of a log: a call, and its answer; none while the call has not been carried out.
+#[derive(Clone, Copy, Debug, PartialEq, Eq)]
 pub struct Entry<'a> {
     pub call: Command<'a>,
-    pub answer: Answer,
+    pub answer: Option<Answer>,
 }

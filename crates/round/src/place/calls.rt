@@ -7,18 +7,14 @@ use super::Place;
 use crate::answers::{Refusal, Settled};
 use matching::policy::{Limit, Standing};
 
+#[tactic(auto, unfolding(matching::specs::Log::after))]
 impl<S: Standing, L: Limit> Place<S, L> {
     // Raises the cutoff of one over-asked lane by 1.
     pub fn press(&mut self, lane: u16) -> Result<(), Refusal>
         ensures { (result, place_of self.new) ≡ on_place L.Limit.family (λ family. press_call family lane) (place_of self.old) }
     {
-        if self.book.is_posted() {
-            return Err(Refusal::Posted);
-        }
-        if !self.has_lane(lane) {
-            return Err(Refusal::NoLane);
-        }
-        let at = (lane - 1) as usize;
+        self.must_be_open()?;
+        let at = self.lane_at(lane)?;
         if !self.over_asked(at) {
             return Err(Refusal::NotOverAsked);
         }
@@ -30,12 +26,10 @@ impl<S: Standing, L: Limit> Place<S, L> {
     pub fn settle(&mut self, budget: u32) -> Result<Settled, Refusal>
         ensures { (result, place_of self.new) ≡ on_place L.Limit.family (λ family. settle_call family budget) (place_of self.old) }
     {
-        if self.book.is_posted() {
-            return Err(Refusal::Posted);
-        }
+        self.must_be_open()?;
         for i in 0..budget {
             match self.first_over() {
-                Some(l) => self.book.raise(l as usize),
+                Some(l) => self.book.raise(l),
                 None => return Ok(Settled {
                     presses: i,
                     over: false,
@@ -53,13 +47,11 @@ impl<S: Standing, L: Limit> Place<S, L> {
     pub fn sweep(&mut self) -> Result<u16, Refusal>
         ensures { (result, place_of self.new) ≡ on_place L.Limit.family (λ family. sweep_call family) (place_of self.old) }
     {
-        if self.book.is_posted() {
-            return Err(Refusal::Posted);
-        }
+        self.must_be_open()?;
         let marks = self.over_marks();
-        let mut raised: u16 = 0;
-        for l in 0..self.book.lane_count() {
-            if marks[l] {
+        let mut raised = 0;
+        for (l, over) in marks.iter().enumerate() {
+            if *over {
                 self.book.raise(l);
                 raised += 1;
             }
@@ -71,9 +63,7 @@ impl<S: Standing, L: Limit> Place<S, L> {
     pub fn post(&mut self) -> Result<(), Refusal>
         ensures { (result, place_of self.new) ≡ on_place L.Limit.family (λ family. post_call family) (place_of self.old) }
     {
-        if self.book.is_posted() {
-            return Err(Refusal::Posted);
-        }
+        self.must_be_open()?;
         if self.first_over().is_some() {
             return Err(Refusal::OverAsked);
         }

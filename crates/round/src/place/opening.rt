@@ -1,11 +1,10 @@
 // Making a place, opening it, and carrying out a log.
-ghost use Rattle.std.specs.Prelude.{◌≡◌, map, length};
+ghost use Rattle.std.specs.Prelude.{◌≡◌, length};
 ghost use Rattle.book.specs.Held.{book_model};
 ghost use Rattle.book.specs.Model.{unopened};
 ghost use Rattle.sheets.specs.Held.{model_of};
 ghost use Rattle.sheets.specs.Read.{sheets_of};
-ghost use Rattle.round.specs.Calls.{left};
-ghost use Rattle.round.specs.Held.{place_of, on_place, PlaceModel};
+ghost use Rattle.round.specs.Held.{place_of, on_place};
 ghost use Rattle.round.specs.Log.{call_of, answer_call, open_call, desk_left};
 ghost use Rattle.round.specs.Promise.{calls_of, answers_of, LogKept, LogWritten};
 ghost use Rattle.round.specs.Running.{ran_place, AnsweredTo};
@@ -61,10 +60,8 @@ impl<S: Standing, L: Limit> Place<S, L> {
         ensures calls { calls_of entries.new ≡ calls_of entries.old }
         ensures answers { AnsweredTo (L.Limit.family self.old.limit) (book_model self.old.book) (calls_of entries.old) (length (calls_of entries.old)) (answers_of entries.new) }
     {
-        for i in 0..entries.len() {
-            let call = entries[i].call;
-            let answer = self.carry_out(call);
-            entries[i].answer = answer;
+        for entry in entries.iter_mut() {
+            entry.answer = Some(self.carry_out(entry.call));
         }
     }
 

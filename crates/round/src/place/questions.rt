@@ -16,36 +16,25 @@ impl<S: Standing, L: Limit> Place<S, L> {
     pub fn offer(&self, teacher: u16) -> Result<Option<u16>, Refusal>
         ensures { result ≡ offer_asked teacher (book_model self.now.book) }
     {
-        if !self.has_teacher(teacher) {
-            return Err(Refusal::NoTeacher);
-        }
-        match self.book.offer((teacher - 1) as usize) {
-            Some(l) => Ok(Some(l + 1)),
-            None => Ok(None),
-        }
+        let at = self.teacher_at(teacher)?;
+        Ok(self.book.offer(at).map(|l| l + 1))
     }
 
     // The lane's cutoff.
     pub fn cutoff(&self, lane: u16) -> Result<u16, Refusal>
         ensures { result ≡ cutoff_asked lane (book_model self.now.book) }
     {
-        if !self.has_lane(lane) {
-            return Err(Refusal::NoLane);
-        }
-        Ok(self.book.cutoff((lane - 1) as usize))
+        let at = self.lane_at(lane)?;
+        Ok(self.book.cutoff(at))
     }
 
     // The teacher's rank in the lane.
     pub fn rank(&self, lane: u16, teacher: u16) -> Result<u16, Refusal>
         ensures { result ≡ rank_asked lane teacher (book_model self.now.book) }
     {
-        if !self.has_lane(lane) {
-            return Err(Refusal::NoLane);
-        }
-        if !self.has_teacher(teacher) {
-            return Err(Refusal::NoTeacher);
-        }
-        let rank = self.book.rank((lane - 1) as usize, (teacher - 1) as usize);
+        let l = self.lane_at(lane)?;
+        let t = self.teacher_at(teacher)?;
+        let rank = self.book.rank(l, t);
         if rank == 0 {
             return Err(Refusal::NotLicensed);
         }
@@ -56,10 +45,8 @@ impl<S: Standing, L: Limit> Place<S, L> {
     pub fn is_over_asked(&self, lane: u16) -> Result<bool, Refusal>
         ensures { result ≡ over_asked_asked (L.Limit.family self.now.limit) lane (book_model self.now.book) }
     {
-        if !self.has_lane(lane) {
-            return Err(Refusal::NoLane);
-        }
-        Ok(self.over_asked((lane - 1) as usize))
+        let at = self.lane_at(lane)?;
+        Ok(self.over_asked(at))
     }
 
     // The raises of the round: over all lanes, the cutoff less 1.
@@ -75,6 +62,7 @@ impl<S: Standing, L: Limit> Place<S, L> {
     {
         self.book.write_result(buf)
     }
+
     // Writes the posts sheet of the round into the buffer, and answers its length. A short buffer is left as it is.
     pub fn write_posts(&self, buf: &mut [u8]) -> Result<usize, WriteRefusal>
         ensures { (result, buf.new) ≡ writing (posts_in (book_model self.now.book)) buf.old }

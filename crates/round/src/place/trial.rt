@@ -3,33 +3,18 @@ ghost use Rattle.std.specs.Prelude.{◌≡◌};
 ghost use Rattle.book.specs.Held.{book_model};
 ghost use Rattle.round.specs.Held.{place_of};
 ghost use Rattle.round.specs.Questions.{askers_asked, trial_call};
-ghost use Rattle.round.specs.Trials.{refusal_of};
 
 use super::Place;
 use crate::answers::Refusal;
-use book::TrialRefusal;
 use matching::policy::{Limit, Standing};
-
-// The refusal of a trial, as the calls of a place have it.
-fn refusal_of(refusal: TrialRefusal) -> Refusal
-    ensures { result ≡ refusal_of refusal }
-{
-    match refusal {
-        TrialRefusal::NoLane => Refusal::NoLane,
-        TrialRefusal::BadCutoff => Refusal::BadCutoff,
-        TrialRefusal::BadRow => Refusal::BadRow,
-    }
-}
 
 impl<S: Standing, L: Limit> Place<S, L> {
     // Writes the row of the lane's askers: one byte a teacher, 1 for an asker and 0 for the others. A refusal leaves the row as it is.
     pub fn askers(&self, lane: u16, row: &mut [u8]) -> Result<(), Refusal>
         ensures { (result, row.new) ≡ askers_asked lane (book_model self.now.book) row.old }
     {
-        if !self.has_lane(lane) {
-            return Err(Refusal::NoLane);
-        }
-        if !self.book.askers((lane - 1) as usize, row) {
+        let at = self.lane_at(lane)?;
+        if !self.book.askers(at, row) {
             return Err(Refusal::BadRow);
         }
         Ok(())
@@ -40,12 +25,8 @@ impl<S: Standing, L: Limit> Place<S, L> {
     pub fn trial(&mut self, lane: u16, tried: u16, row: &mut [u8]) -> Result<(), Refusal>
         ensures { ((result, row.new), place_of self.new) ≡ trial_call lane tried row.old (place_of self.old) }
     {
-        if !self.has_lane(lane) {
-            return Err(Refusal::NoLane);
-        }
-        match self.book.trial((lane - 1) as usize, tried, row) {
-            Ok(()) => Ok(()),
-            Err(refusal) => Err(refusal_of(refusal)),
-        }
+        let at = self.lane_at(lane)?;
+        self.book.trial(at, tried, row)?;
+        Ok(())
     }
 }

@@ -7,18 +7,15 @@ use super::Place;
 use crate::answers::Refusal;
 use matching::policy::{Limit, Standing};
 
+#[tactic(auto, unfolding(matching::specs::Log::after))]
 impl<S: Standing, L: Limit> Place<S, L> {
     // Replaces one teacher's wish list, and sets every cutoff to 1.
     pub fn wish(&mut self, teacher: u16, wishes: &[u16]) -> Result<(), Refusal>
         ensures { (result, place_of self.new) ≡ on_place L.Limit.family (λ family. wish_call family teacher wishes.now) (place_of self.old) }
     {
-        if self.book.is_posted() {
-            return Err(Refusal::Posted);
-        }
-        if !self.has_teacher(teacher) {
-            return Err(Refusal::NoTeacher);
-        }
-        if !self.book.rewish((teacher - 1) as usize, wishes) {
+        self.must_be_open()?;
+        let at = self.teacher_at(teacher)?;
+        if !self.book.rewish(at, wishes) {
             return Err(Refusal::BadWishes);
         }
         Ok(())

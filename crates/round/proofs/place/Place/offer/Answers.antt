@@ -1,8 +1,8 @@
-use Rattle.std.proofs.Common.{◌-◌, sym, ◌∙◌, arith}
+use Rattle.std.proofs.Common.{sym, ◌∙◌, arith}
 use Rattle.book.proofs.Results.{few_lanes, offer_inside}
 use Rattle.round.proofs.place.Place.offer.Goals as goal
 
-pub overflow_add-result : goal.overflow_add-result
-overflow_add-result g c =
+pub map-requires : goal.map-requires
+map-requires g c l is fits ranges =
     let b = c.args.self.now.book in
-    omega (arith, few_lanes b, offer_inside b (c.args.teacher - 1) c.in-Some.l (sym c.offer.ensures ∙ c.in-Some.is))
+    omega (arith, few_lanes b, offer_inside b c.in_ok-at.at l (sym c.offer.ensures ∙ is))

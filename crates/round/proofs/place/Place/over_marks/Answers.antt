@@ -1,17 +1,12 @@
-use Rattle.std.proofs.Common.{false, refl, arith}
+use Rattle.std.proofs.Common.{rules, arith}
 use Rattle.book.specs.Held.{book_model}
-use Rattle.book.proofs.Asking.{each_none, each_all}
+use Rattle.book.proofs.Results.{few_lanes}
 use Rattle.round.specs.Calls.{over_in}
-use Rattle.round.proofs.Over.{over_past}
+use Rattle.round.proofs.Over.{marks_are, over_past}
 use Rattle.round.proofs.place.Place.over_marks.Goals as goal
 
-pub loop-l-init : goal.loop-l-init
-loop-l-init g c = let p = c.args.self.now in (refl, each_none (over_in (g.L.Limit.family p.limit) (book_model p.book)) false 80)
-
-pub returns : goal.returns
-returns g c =
+pub returns-clause-marks : goal.returns-clause-marks
+returns-clause-marks g c =
     let p = c.args.self.now in
-    record {
-      long = c.loop-l.invariant.0;
-      marks = each_all (over_in (g.L.Limit.family p.limit) (book_model p.book)) false c.loop-l.marks c.loop-l.l (λ l h. over_past (g.L.Limit.family p.limit) (book_model p.book) l (omega (arith, c.lane_count-l-end.ensures.value))) c.loop-l.invariant.1;
-    }
+    let family = g.L.Limit.family p.limit in
+    marks_are _ _ (over_in family (book_model p.book)) (λ l b q k. search rules) c.from_fn.result 80 c.from_fn.ensures.items (λ l h. over_past family (book_model p.book) l (omega (arith, few_lanes p.book)))

@@ -1,18 +1,10 @@
-use Rattle.std.proofs.Common.{◌≡◌, ◌-◌, is_some, Some, None, sym, refl, ap, ◌∙◌, arith}
+use Rattle.std.proofs.Common.{◌≡◌, ◌-◌, is_some, false, Some, None, sym, ap, ◌∙◌, arith}
+use Rattle.std.proofs.lemmas.Grind.{common_steps}
 use Rattle.book.specs.Held.{book_model}
-use Rattle.round.specs.Calls.{settle_call, next_in}
-use Rattle.round.specs.Held.{place_of}
+use Rattle.round.specs.Calls.{next_in}
 use Rattle.round.proofs.Over.{raised_is, next_over}
-use Rattle.round.proofs.Answering.{placed, same_place, settle_posted, settle_zero, settle_more, settle_stop_at, settle_end, settle_done}
+use Rattle.round.proofs.Answering.{goes_on, settle_more, settle_stop_at, settle_end, settle_done}
 use Rattle.round.proofs.place.Place.settle.Goals as goal
-
-pub returns-then-is_posted : goal.returns-then-is_posted
-returns-then-is_posted g c =
-    let p = c.args.self.now in
-    placed g.L.Limit.family (λ family. settle_call family c.args.budget) (place_of p) _ _ (settle_posted (g.L.Limit.family p.limit) c.args.budget (book_model p.book) (sym c.if-is_posted.ensures))
-
-pub loop-i-init : goal.loop-i-init
-loop-i-init g c = let p = c.args.self.now in (settle_zero (g.L.Limit.family p.limit) (book_model p.book) c.args.budget, refl, refl)
 
 pub loop-i-preserved : goal.loop-i-preserved
 loop-i-preserved g c =
@@ -30,21 +22,19 @@ loop-i-preserved g c =
 pub returns-in-None : goal.returns-in-None
 returns-in-None g c =
     let p = c.args.self.now in
-    let q = c.loop-i.self in
     let family = g.L.Limit.family p.limit in
-    let m = book_model q.book in
+    let m = book_model c.loop-i.self.book in
     let next : next_in family m ≡ None = ap (λ x. next_in (g.L.Limit.family x) m) (sym c.loop-i.invariant.2) ∙ sym c.in-None.ensures in
-    same_place _ q.standing p.standing q.limit p.limit m c.loop-i.invariant.1 c.loop-i.invariant.2
-    ∙ placed g.L.Limit.family (λ family. settle_call family c.args.budget) (place_of p) _ _
-    (settle_done family (book_model p.book) m c.args.budget c.loop-i.i _ (sym c.if-is_posted.ensures) (c.loop-i.invariant.0 ∙ settle_stop_at family m c.loop-i.i (c.args.budget - c.loop-i.i) next) (sym (ap is_some next)))
+    let out = c.loop-i.invariant.0 ∙ settle_stop_at family m c.loop-i.i (c.args.budget - c.loop-i.i) next in
+    let done = settle_done family (book_model p.book) m c.args.budget c.loop-i.i false (goes_on (book_model p.book) c.in_ok-must_be_open.field-0 c.in_ok-must_be_open.ensures) out (sym (ap is_some next)) in
+    grind (arith, common_steps)
 
 pub returns : goal.returns
 returns g c =
     let p = c.args.self.now in
-    let q = c.loop-i.self in
     let family = g.L.Limit.family p.limit in
-    let m = book_model q.book in
-    same_place _ q.standing p.standing q.limit p.limit m c.loop-i.invariant.1 c.loop-i.invariant.2
-    ∙ placed g.L.Limit.family (λ family. settle_call family c.args.budget) (place_of p) _ _
-    (settle_done family (book_model p.book) m c.args.budget c.args.budget _ (sym c.if-is_posted.ensures) (c.loop-i.invariant.0 ∙ settle_end family m c.loop-i.i c.args.budget (omega arith))
-    (c.is_some-over.ensures ∙ ap is_some c.first_over-2.ensures ∙ ap (λ x. is_some (next_in (g.L.Limit.family x) m)) c.loop-i.invariant.2))
+    let m = book_model c.loop-i.self.book in
+    let over = c.is_some-over.ensures ∙ ap is_some c.first_over-2.ensures ∙ ap (λ x. is_some (next_in (g.L.Limit.family x) m)) c.loop-i.invariant.2 in
+    let out = c.loop-i.invariant.0 ∙ settle_end family m c.loop-i.i c.args.budget (omega arith) in
+    let done = settle_done family (book_model p.book) m c.args.budget c.args.budget c.is_some-over.result (goes_on (book_model p.book) c.in_ok-must_be_open.field-0 c.in_ok-must_be_open.ensures) out over in
+    grind (arith, common_steps)

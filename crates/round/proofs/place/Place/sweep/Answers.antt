@@ -1,19 +1,15 @@
 use Rattle.std.proofs.Common.{◌≡◌, ◌≤◌, true, false, sym, refl, ap, ◌∙◌, arith}
 use Rattle.matching.proofs.Ranking.{count_yes, count_no}
+use Rattle.std.proofs.lemmas.Grind.{common_steps}
+use Rattle.book.proofs.Results.{few_lanes}
 use Rattle.book.specs.Held.{book_model}
 use Rattle.book.specs.Model.{Model, lifted}
-use Rattle.round.specs.Calls.{sweep_call, over_in}
-use Rattle.round.specs.Held.{place_of}
+use Rattle.round.specs.Calls.{over_in}
 use Rattle.round.specs.Loops.{swept_to}
 use Rattle.round.proofs.Over.{over_inside, book_cut, lifted_bumped}
-use Rattle.round.proofs.Answering.{placed, same_place, count_none, sweep_posted, sweep_done, swept_start, swept_cut, swept_yes, swept_no}
+use Rattle.round.proofs.Answering.{count_none, goes_on, sweep_done, swept_start, swept_cut, swept_yes, swept_no}
 use Rattle.round.proofs.place.Place.sweep.Goals as goal
-use Rattle.round.proofs.place.Place.sweep.Goals.{then-marks-l, else-marks-l}
-
-pub returns-then-is_posted : goal.returns-then-is_posted
-returns-then-is_posted g c =
-    let p = c.args.self.now in
-    placed g.L.Limit.family (λ family. sweep_call family) (place_of p) _ _ (sweep_posted (g.L.Limit.family p.limit) (book_model p.book) (sym c.if-is_posted.ensures))
+use Rattle.round.proofs.place.Place.sweep.Goals.{then-over, else-over}
 
 pub loop-l-init : goal.loop-l-init
 loop-l-init g c =
@@ -27,9 +23,9 @@ loop-l-preserved g c =
     let family = g.L.Limit.family p.limit in
     let m = book_model p.book in
     let l = c.loop-l.l in
-    elim c.if-marks-l.branch [
-      | then-marks-l w ↦
-          let yes : over_in family m l ≡ true = sym (c.over_marks-marks.ensures.marks l) ∙ w.if-marks-l.true in
+    elim c.if-over.branch [
+      | then-over w ↦
+          let yes : over_in family m l ≡ true = sym (c.over_marks-marks.ensures.marks l) ∙ w.if-over.true in
           let cut : (swept_to family m l).1.cuts l ≤ 201 = omega (arith, swept_cut family m l, book_cut p.book family (g.met.L.Limit.empty p.limit) l yes) in (
             ap (λ q. book_model q.book) w.self-is ∙ w.raise.ensures ∙ ap (λ (x : Model). lifted x l) c.loop-l.invariant.0 ∙ lifted_bumped (swept_to family m l) l (over_inside family m l yes) cut ∙ swept_yes family m l yes,
             omega (arith, count_yes (over_in family m) l yes, w.raised-is),
@@ -37,16 +33,15 @@ loop-l-preserved g c =
             ap (λ q. q.standing) w.self-is ∙ c.loop-l.invariant.3,
             ap (λ q. q.limit) w.self-is ∙ c.loop-l.invariant.4,
           )
-      | else-marks-l w ↦
-          let no : over_in family m l ≡ false = sym (c.over_marks-marks.ensures.marks l) ∙ w.if-marks-l.false in
+      | else-over w ↦
+          let no : over_in family m l ≡ false = sym (c.over_marks-marks.ensures.marks l) ∙ w.if-over.false in
           (ap (λ q. book_model q.book) w.self-is ∙ c.loop-l.invariant.0 ∙ swept_no family m l no, omega (arith, count_no (over_in family m) l no, w.raised-is), omega (arith, w.raised-is), ap (λ q. q.standing) w.self-is ∙ c.loop-l.invariant.3, ap (λ q. q.limit) w.self-is ∙ c.loop-l.invariant.4)
     ]
 
 pub returns : goal.returns
 returns g c =
     let p = c.args.self.now in
-    let q = c.loop-l.self in
-    let family = g.L.Limit.family p.limit in
-    same_place _ q.standing p.standing q.limit p.limit (book_model q.book) c.loop-l.invariant.3 c.loop-l.invariant.4
-    ∙ placed g.L.Limit.family (λ family. sweep_call family) (place_of p) _ _
-    (sweep_done family (book_model p.book) (book_model q.book) c.loop-l.l c.loop-l.raised (sym c.if-is_posted.ensures) (omega (arith, c.lane_count-l-end.ensures.value)) c.loop-l.invariant.0 c.loop-l.invariant.1)
+    let m = book_model p.book in
+    let free = goes_on m c.in_ok-must_be_open.field-0 c.in_ok-must_be_open.ensures in
+    let done = sweep_done (g.L.Limit.family p.limit) m (book_model c.loop-l.self.book) c.loop-l.l c.loop-l.raised free (omega (arith, few_lanes p.book)) c.loop-l.invariant.0 c.loop-l.invariant.1 in
+    grind (arith, common_steps)
