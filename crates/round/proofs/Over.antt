@@ -91,7 +91,7 @@ lifted_bumped m l h c = ap (λ (d : ℕ → ℕ). (m.0, with_cuts m.1 d)) (fun_e
 module _ (b : Book) where
   pub ranks_small : (l t : ℕ) → (book_model b).0.ranks l t ≤ 201
   ranks_small l t =
-      by (ltb l (length (model_of b.sheets).posts.lanes) && ltb t (length (model_of b.sheets).teachers)) _ (b.ranks.small _)
+      by (ltb l (length (model_of b.sheets).posts.lanes) && ltb t (length (model_of b.sheets).teachers)) _ (b.ranks.small l t)
     where
       by : (a : Bool) (x : ℕ) → x ≤ 201 → cond a x 0 ≤ 201
       by true x h = h

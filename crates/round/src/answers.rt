@@ -1,9 +1,10 @@
 // What the calls answer.
 ghost use Rattle.std.specs.Prelude.{◌≡◌};
 ghost use Rattle.round.specs.Calls.{refusal_number};
-ghost use Rattle.round.specs.Trials.{refusal_of};
+ghost use Rattle.round.specs.Trials.{refusal_of, wish_refusal_of, row_refusal};
 
-use book::TrialRefusal;
+use book::{BadRow, TrialRefusal};
+use sheets::WishRefusal;
 use std::error::Error;
 use std::fmt;
 
@@ -68,6 +69,27 @@ impl From<TrialRefusal> for Refusal {
             TrialRefusal::BadCutoff => Refusal::BadCutoff,
             TrialRefusal::BadRow => Refusal::BadRow,
         }
+    }
+}
+
+impl From<WishRefusal> for Refusal {
+    ghost from_gives = { λ refusal made. made ≡ wish_refusal_of refusal };
+
+    // The refusal of a wish list, as the calls of a place have it.
+    fn from(refusal: WishRefusal) -> Refusal {
+        match refusal {
+            WishRefusal::NoTeacher => Refusal::NoTeacher,
+            WishRefusal::BadWishes => Refusal::BadWishes,
+        }
+    }
+}
+
+impl From<BadRow> for Refusal {
+    ghost from_gives = { λ _ made. made ≡ row_refusal };
+
+    // The refusal of a row, as the calls of a place have it.
+    fn from(_row: BadRow) -> Refusal {
+        Refusal::BadRow
     }
 }
 

@@ -14,9 +14,7 @@ impl<S: Standing, L: Limit> Place<S, L> {
         ensures { (result, row.new) ≡ askers_asked lane (book_model self.now.book) row.old }
     {
         let at = self.lane_at(lane)?;
-        if !self.book.askers(at, row) {
-            return Err(Refusal::BadRow);
-        }
+        self.book.askers(at, row)?;
         Ok(())
     }
 

@@ -15,9 +15,7 @@ impl<S: Standing, L: Limit> Place<S, L> {
     {
         self.must_be_open()?;
         let at = self.teacher_at(teacher)?;
-        if !self.book.rewish(at, wishes) {
-            return Err(Refusal::BadWishes);
-        }
+        self.book.rewish(at, wishes)?;
         Ok(())
     }
 }
