@@ -1,16 +1,18 @@
 // Opens a posting round from the two sheets, settles it and prints the result sheet, or shows what is wrong with the sheets.
 #![tactic(auto)]
 
-mod files;
+mod paths;
 mod shown;
 
+use anyhow::{Result, bail};
 use book::Book;
-use files::{SheetFiles, read_sheet, sheet_files};
 use lines::Fault;
+use paths::{SheetPaths, sheet_paths};
 use round::{Answer, Command, Entry, Place};
 use rules::{Points, Seats};
+use sheet_files::read_sheet;
 use sheets::Sheets;
-use shown::{Stop, show_fault, show_result};
+use shown::{show_fault, show_result};
 use std::process::ExitCode;
 
 // Fills the standing and the limit from the sheets: points decide, and a lane has as many seats as its size.
@@ -29,42 +31,39 @@ fn fill_rules(
 fn settle_log<'a>() -> [Entry<'a>; 1] {
     [Entry {
         call: Command::Settle(16000),
-        answer: Answer::Pending,
+        answer: None,
     }]
 }
 
 // Did the settle leave no lane over-asked? A budget of 16,000 always does.
-fn is_calm(answer: Answer) -> bool {
-    match answer {
-        Answer::Settle(Ok(settled)) => !settled.over,
-        _ => false,
-    }
+fn is_calm(answer: Option<Answer>) -> bool {
+    matches!(answer, Some(Answer::Settle(Ok(settled))) if !settled.over)
 }
 
-fn run(rt: &HostRuntime, names: &SheetFiles) -> Result<(), Stop> {
-    let posts = read_sheet(rt, names.posts.as_str())?;
-    let staff = read_sheet(rt, names.staff.as_str())?;
+fn run(rt: &HostRuntime, paths: &SheetPaths) -> Result<()> {
+    let posts = read_sheet(rt, "posting", paths.posts.as_str())?;
+    let staff = read_sheet(rt, "posting", paths.staff.as_str())?;
     let mut desk = Sheets::reserve(rt.alloc())?;
     let memory = Book::reserve(rt.alloc())?;
     let mut points = Points::new();
     let mut seats = Seats::new();
     if let Err(fault) = fill_rules(&mut points, &mut seats, &mut desk, &posts, &staff) {
-        return show_fault(rt, names, &posts, &staff, fault);
+        return show_fault(rt, paths, &posts, &staff, fault);
     }
     let mut place = Place::new(points, seats, memory);
     let mut log = settle_log();
     if let Err(fault) = place.keep_log(&mut desk, &posts, &staff, &mut log) {
-        return show_fault(rt, names, &posts, &staff, fault);
+        return show_fault(rt, paths, &posts, &staff, fault);
     }
     if !is_calm(log[0].answer) {
-        return Err(Stop::Unsettled);
+        bail!("a lane is still over-asked");
     }
     show_result(rt, &place)
 }
 
-fn start(rt: &HostRuntime) -> Result<(), Stop> {
-    let names = sheet_files(rt)?;
-    run(rt, &names)
+fn start(rt: &HostRuntime) -> Result<()> {
+    let paths = sheet_paths(rt)?;
+    run(rt, &paths)
 }
 
 // What stops the program has been shown by then, so no error is handed on.

@@ -1,23 +1,18 @@
 // Rows of many lengths, and caps on caps.
-use crate::stop::Stop;
+use crate::pair::Pair;
+use anyhow::Result;
 use matching::policy::Limit;
-use rules::{Cap, Purse, Seats};
+use rules::{Purse, Seats};
 use sheets::Sheets;
 
 // One lane of size 2, and three teachers: an incumbent who costs 1, and newcomers who cost 2 and 0.
-const POSTS: &[u8] = b"schools=1\nsubjects=1\nlanes=1\nlane=1,1,2\nlist=\n";
-
-const STAFF: &[u8] =
-    b"teachers=3\nhome=1\nmain=1\nalso=\nwish=\npoints=5\ncost=1\nhome=0\nmain=1\nalso=\nwish=\npoints=5\ncost=2\nhome=0\nmain=1\nalso=\nwish=\npoints=5\ncost=0\n";
+const PAIR: Pair = Pair {
+    posts: b"schools=1\nsubjects=1\nlanes=1\nlane=1,1,2\nlist=\n",
+    staff: b"teachers=3\nhome=1\nmain=1\nalso=\nwish=\npoints=5\ncost=1\nhome=0\nmain=1\nalso=\nwish=\npoints=5\ncost=2\nhome=0\nmain=1\nalso=\nwish=\npoints=5\ncost=0\n",
+};
 
 // What both limits say of a row of so many bytes, all of them the mark.
-fn show_row(
-    rt: &HostRuntime,
-    seats: &Seats,
-    purse: &Purse,
-    n: usize,
-    mark: u8,
-) -> Result<(), Stop> {
+fn show_row(rt: &HostRuntime, seats: &Seats, purse: &Purse, n: usize, mark: u8) -> Result<()> {
     let row = vec![in rt.alloc(); mark; n]?;
     let in_seats = seats.fits(1, &row);
     let in_purse = purse.fits(1, &row);
@@ -29,16 +24,10 @@ fn show_row(
 }
 
 // What both limits say of a row with one mark, at the place.
-fn show_mark(
-    rt: &HostRuntime,
-    seats: &Seats,
-    purse: &Purse,
-    n: usize,
-    at: usize,
-) -> Result<(), Stop> {
+fn show_mark(rt: &HostRuntime, seats: &Seats, purse: &Purse, n: usize, at: usize) -> Result<()> {
     let mut row = vec![in rt.alloc(); 0u8; n]?;
-    if at < row.len() {
-        row[at] = 7;
+    if let Some(mark) = row.get_mut(at) {
+        *mark = 7;
     }
     let in_seats = seats.fits(1, &row);
     let in_purse = purse.fits(1, &row);
@@ -50,18 +39,11 @@ fn show_mark(
 }
 
 // Rows of 0, 1, 199, 200, 201 and 1,000 bytes.
-pub fn show_rows(rt: &HostRuntime) -> Result<(), Stop> {
+pub fn show_rows(rt: &HostRuntime) -> Result<()> {
     let mut desk = Sheets::reserve(rt.alloc())?;
-    let mut seats = Seats::new();
-    let mut purse = Purse::new();
-    let Ok(()) = seats.fill(&mut desk, POSTS, STAFF) else {
-        return Err(Stop::BadSheet);
-    };
-    let Ok(()) = purse.fill(&mut desk, POSTS, STAFF) else {
-        return Err(Stop::BadSheet);
-    };
-    let lengths = [0, 1, 2, 3, 199, 200, 201, 1000];
-    for n in lengths {
+    let seats = PAIR.seats(&mut desk)?;
+    let purse = PAIR.purse(&mut desk)?;
+    for n in [0, 1, 2, 3, 199, 200, 201, 1000] {
         show_row(rt, &seats, &purse, n, 1)?;
         show_row(rt, &seats, &purse, n, 0)?;
     }
@@ -72,23 +54,14 @@ pub fn show_rows(rt: &HostRuntime) -> Result<(), Stop> {
 }
 
 // Caps of 1 and 2 over seats, and one on the other.
-pub fn show_caps(rt: &HostRuntime) -> Result<(), Stop> {
+pub fn show_caps(rt: &HostRuntime) -> Result<()> {
     let mut desk = Sheets::reserve(rt.alloc())?;
-    let mut seats = Seats::new();
-    let Ok(()) = seats.fill(&mut desk, POSTS, STAFF) else {
-        return Err(Stop::BadSheet);
-    };
-    let mut cap = Cap::new(seats, 1);
-    let Ok(()) = cap.fill(&mut desk, POSTS, STAFF) else {
-        return Err(Stop::BadSheet);
-    };
+    let seats = PAIR.seats(&mut desk)?;
+    let cap = PAIR.cap(&mut desk, seats, 1)?;
     let one_newcomer = cap.fits(1, &[1, 1, 0]);
     let two_newcomers = cap.fits(1, &[0, 1, 1]);
     println!(rt; "cap of 1: with one newcomer {one_newcomer}, with two {two_newcomers}")?;
-    let mut caps = Cap::new(cap, 300);
-    let Ok(()) = caps.fill(&mut desk, POSTS, STAFF) else {
-        return Err(Stop::BadSheet);
-    };
+    let caps = PAIR.cap(&mut desk, cap, 300)?;
     let one_newcomer = caps.fits(1, &[1, 1]);
     let two_newcomers = caps.fits(1, &[0, 1, 1]);
     let over = caps.fits(1, &[1, 1, 1]);

@@ -2,16 +2,17 @@
 #![tactic(auto)]
 
 mod limits;
+mod pair;
 mod played;
+mod settled;
 mod small;
-mod stop;
 
+use anyhow::Result;
 use limits::{show_caps, show_rows};
 use played::show_round;
 use small::{show_cap, show_closed, show_purse};
-use stop::Stop;
 
-fn main(rt: HostRuntime) -> Result<(), Stop> {
+fn main(rt: HostRuntime) -> Result<()> {
     show_rows(&rt)?;
     show_caps(&rt)?;
     show_round(&rt)?;

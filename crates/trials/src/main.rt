@@ -2,15 +2,14 @@
 #![tactic(auto)]
 
 mod rows;
-mod stop;
 mod written;
 
+use anyhow::Result;
 use book::Book;
 use round::Place;
 use rows::show_all;
 use rules::{Points, Seats};
 use sheets::Sheets;
-use stop::Stop;
 use written::show_sheets;
 
 // Two schools, three lanes of size 1, and three teachers.
@@ -21,60 +20,28 @@ const STAFF: &[u8] =
     b"teachers=3\nhome=1\nmain=1\nalso=2\nwish=2,1\npoints=50\ncost=1\nhome=2\nmain=1\nalso=\nwish=2\npoints=70\ncost=1\nhome=0\nmain=2\nalso=\nwish=1\npoints=90\ncost=1\n";
 
 // A place that goes by the points and sizes of the two sheets, unopened.
-fn made(rt: &HostRuntime, desk: &mut Sheets) -> Result<Place<Points, Seats>, Stop> {
+fn made(rt: &HostRuntime, desk: &mut Sheets) -> Result<Place<Points, Seats>> {
     let memory = Book::reserve(rt.alloc())?;
     let mut points = Points::new();
+    points.fill(desk, POSTS, STAFF)?;
     let mut seats = Seats::new();
-    let Ok(()) = points.fill(desk, POSTS, STAFF) else {
-        return Err(Stop::BadSheet);
-    };
-    let Ok(()) = seats.fill(desk, POSTS, STAFF) else {
-        return Err(Stop::BadSheet);
-    };
+    seats.fill(desk, POSTS, STAFF)?;
     Ok(Place::new(points, seats, memory))
 }
 
-fn open(place: &mut Place<Points, Seats>, desk: &mut Sheets) -> Result<(), Stop> {
-    match place.open(desk, POSTS, STAFF) {
-        Ok(()) => Ok(()),
-        Err(_) => Err(Stop::BadSheet),
-    }
-}
-
-// Settles the round, changes a wish, and posts; a call that is refused stops the program.
-fn settle(place: &mut Place<Points, Seats>) -> Result<(), Stop> {
-    match place.settle(16000) {
-        Ok(_) => Ok(()),
-        Err(_) => Err(Stop::Denied),
-    }
-}
-
-fn wish(place: &mut Place<Points, Seats>) -> Result<(), Stop> {
-    match place.wish(2, &[1]) {
-        Ok(()) => Ok(()),
-        Err(_) => Err(Stop::Denied),
-    }
-}
-
-fn post(place: &mut Place<Points, Seats>) -> Result<(), Stop> {
-    match place.post() {
-        Ok(()) => Ok(()),
-        Err(_) => Err(Stop::Denied),
-    }
-}
-
-fn main(rt: HostRuntime) -> Result<(), Stop> {
+// A sheet or a call of the program's own that is refused stops it.
+fn main(rt: HostRuntime) -> Result<()> {
     let mut desk = Sheets::reserve(rt.alloc())?;
     let mut place = made(&rt, &mut desk)?;
     show_all(&rt, "unopened", &mut place)?;
     show_sheets(&rt, "unopened", &mut place, &mut desk)?;
-    open(&mut place, &mut desk)?;
+    place.open(&mut desk, POSTS, STAFF)?;
     show_all(&rt, "opened", &mut place)?;
-    settle(&mut place)?;
+    place.settle(16000)?;
     show_all(&rt, "settled", &mut place)?;
     show_sheets(&rt, "settled", &mut place, &mut desk)?;
-    wish(&mut place)?;
-    post(&mut place)?;
+    place.wish(2, &[1])?;
+    place.post()?;
     show_all(&rt, "posted with another wish", &mut place)?;
     show_sheets(&rt, "posted with another wish", &mut place, &mut desk)?;
     show_all(&rt, "opened again from its sheets", &mut place)

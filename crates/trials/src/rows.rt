@@ -1,54 +1,34 @@
 // Rows of askers, and trials.
-use crate::stop::Stop;
+use anyhow::Result;
 use round::{Place, Refusal};
 use rules::{Points, Seats};
 
-// The number of the refusal; 0 for an answer.
-fn number_of(answer: Result<(), Refusal>) -> u8 {
-    match answer {
-        Ok(()) => 0,
-        Err(refusal) => refusal.number(),
-    }
-}
-
-// The cutoff of the lane; 0 where there is none.
-fn cutoff_of(place: &Place<Points, Seats>, lane: u16) -> u16 {
-    match place.cutoff(lane) {
-        Ok(cutoff) => cutoff,
-        Err(_) => 0,
-    }
-}
-
-// What was asked, its answer, the row then, and the cutoffs of the round then.
+// What was asked, the number of the refusal or 0, the row then, and the cutoffs of the round then; 0 where there is no lane.
 fn show(
     rt: &HostRuntime,
     place: &Place<Points, Seats>,
     asked: &str,
-    number: u8,
+    answer: Result<(), Refusal>,
     row: &[u8],
-) -> Result<(), Stop> {
+) -> Result<()> {
+    let number = answer.map_or_else(|refusal| refusal.number(), |()| 0);
     print!(rt; "{asked}: {number}, row")?;
     for b in row {
         print!(rt; " {b}")?;
     }
-    let first = cutoff_of(place, 1);
-    let second = cutoff_of(place, 2);
-    let third = cutoff_of(place, 3);
+    let first = place.cutoff(1).unwrap_or(0);
+    let second = place.cutoff(2).unwrap_or(0);
+    let third = place.cutoff(3).unwrap_or(0);
     println!(rt; ", cutoffs {first} {second} {third}")?;
     Ok(())
 }
 
 // The askers of the lane, in a row of so many bytes.
-fn show_askers(
-    rt: &HostRuntime,
-    place: &Place<Points, Seats>,
-    lane: u16,
-    n: usize,
-) -> Result<(), Stop> {
+fn show_askers(rt: &HostRuntime, place: &Place<Points, Seats>, lane: u16, n: usize) -> Result<()> {
     let mut row = vec![in rt.alloc(); 7u8; n]?;
-    let number = number_of(place.askers(lane, &mut row));
+    let answer = place.askers(lane, &mut row);
     let asked = format!(in rt.alloc(); "askers of lane {lane} in {n} bytes")?;
-    show(rt, place, asked.as_str(), number, &row)
+    show(rt, place, asked.as_str(), answer, &row)
 }
 
 // A trial of the cutoff, with a row of so many bytes.
@@ -58,11 +38,11 @@ fn show_trial(
     lane: u16,
     tried: u16,
     n: usize,
-) -> Result<(), Stop> {
+) -> Result<()> {
     let mut row = vec![in rt.alloc(); 7u8; n]?;
-    let number = number_of(place.trial(lane, tried, &mut row));
+    let answer = place.trial(lane, tried, &mut row);
     let asked = format!(in rt.alloc(); "lane {lane} at {tried} in {n} bytes")?;
-    show(rt, place, asked.as_str(), number, &row)
+    show(rt, place, asked.as_str(), answer, &row)
 }
 
 // Lane, tried cutoff and bytes of the row: each question in turn gets a no, then all cutoffs that may be tried, and two that may not.
@@ -85,11 +65,7 @@ const TRIALS: [(u16, u16, usize); 15] = [
 ];
 
 // Every lane's askers, rows of a wrong length, and the trials.
-pub fn show_all(
-    rt: &HostRuntime,
-    when: &str,
-    place: &mut Place<Points, Seats>,
-) -> Result<(), Stop> {
+pub fn show_all(rt: &HostRuntime, when: &str, place: &mut Place<Points, Seats>) -> Result<()> {
     println!(rt; "{when}")?;
     for lane in 0..5 {
         show_askers(rt, place, lane, 3)?;
@@ -97,8 +73,8 @@ pub fn show_all(
     show_askers(rt, place, 3, 2)?;
     show_askers(rt, place, 3, 4)?;
     show_askers(rt, place, 4, 4)?;
-    for trial in TRIALS {
-        show_trial(rt, place, trial.0, trial.1, trial.2)?;
+    for (lane, tried, n) in TRIALS {
+        show_trial(rt, place, lane, tried, n)?;
     }
     Ok(())
 }

@@ -1,38 +1,43 @@
 // Sheets that a place writes, and opens again.
-use crate::stop::Stop;
+use anyhow::{Result, bail};
 use round::Place;
 use rules::{Points, Seats};
-use sheets::{Sheets, WriteRefusal};
+use sheets::Sheets;
 use std::io::Write;
 
-// The length that was answered, or the number of the refusal above 10,000.
-fn length_of(answer: Result<usize, WriteRefusal>) -> usize {
-    match answer {
-        Ok(n) => n,
-        Err(refusal) => 10000 + refusal.number() as usize,
-    }
+// The sheets that a place writes, with the numbers under which they are shown.
+#[derive(Clone, Copy)]
+enum Written {
+    Posts = 1,
+    Staff = 2,
+    Result = 3,
 }
 
-// Writes one of the sheets into the buffer.
-fn write(place: &Place<Points, Seats>, sheet: u8, room: &mut [u8]) -> usize {
-    let answer = match sheet {
-        1 => place.write_posts(room),
-        2 => place.write_staff(room),
-        _ => place.write_result(room),
-    };
-    length_of(answer)
+const ALL: [Written; 3] = [Written::Posts, Written::Staff, Written::Result];
+
+impl Written {
+    // Writes the sheet into the buffer: its length, or the number of the refusal above 10,000.
+    fn write(self, place: &Place<Points, Seats>, room: &mut [u8]) -> usize {
+        let answer = match self {
+            Written::Posts => place.write_posts(room),
+            Written::Staff => place.write_staff(room),
+            Written::Result => place.write_result(room),
+        };
+        answer.unwrap_or_else(|refusal| 10000 + usize::from(refusal.number()))
+    }
 }
 
 // The sheet in a buffer of so many bytes that were dots: the answer, and the buffer then.
 fn show_sheet(
     rt: &HostRuntime,
     place: &Place<Points, Seats>,
-    sheet: u8,
+    sheet: Written,
     size: usize,
-) -> Result<(), Stop> {
+) -> Result<()> {
     let mut room = vec![in rt.alloc(); 46u8; size]?;
-    let n = write(place, sheet, &mut room);
-    println!(rt; "sheet {sheet} in {size} bytes: {n}")?;
+    let n = sheet.write(place, &mut room);
+    let number = sheet as u8;
+    println!(rt; "sheet {number} in {size} bytes: {n}")?;
     let mut out = rt.stdout();
     out.write_all(&room)?;
     println!(rt; "")?;
@@ -40,9 +45,9 @@ fn show_sheet(
 }
 
 // The sheet in a buffer that is one byte too short, exact, and two bytes too long.
-fn show_sizes(rt: &HostRuntime, place: &Place<Points, Seats>, sheet: u8) -> Result<(), Stop> {
+fn show_sizes(rt: &HostRuntime, place: &Place<Points, Seats>, sheet: Written) -> Result<()> {
     let mut room = vec![in rt.alloc(); 0u8; 1000]?;
-    let n = write(place, sheet, &mut room);
+    let n = sheet.write(place, &mut room);
     if n > 0 && n < 1000 {
         show_sheet(rt, place, sheet, n - 1)?;
     }
@@ -54,19 +59,15 @@ fn show_sizes(rt: &HostRuntime, place: &Place<Points, Seats>, sheet: u8) -> Resu
 }
 
 // Opens the place with the two sheets that it writes.
-fn reopen(
-    rt: &HostRuntime,
-    place: &mut Place<Points, Seats>,
-    desk: &mut Sheets,
-) -> Result<(), Stop> {
+fn reopen(rt: &HostRuntime, place: &mut Place<Points, Seats>, desk: &mut Sheets) -> Result<()> {
     let mut posts = vec![in rt.alloc(); 0u8; 1000]?;
     let mut staff = vec![in rt.alloc(); 0u8; 1000]?;
-    let m = write(place, 1, &mut posts);
-    let n = write(place, 2, &mut staff);
-    if m > posts.len() || n > staff.len() {
-        return Err(Stop::BadSheet);
-    }
-    match place.open(desk, &posts[0..m], &staff[0..n]) {
+    let m = Written::Posts.write(place, &mut posts);
+    let n = Written::Staff.write(place, &mut staff);
+    let (Some(posts), Some(staff)) = (posts.get(..m), staff.get(..n)) else {
+        bail!("a sheet was not written");
+    };
+    match place.open(desk, posts, staff) {
         Ok(()) => println!(rt; "opened with its own sheets")?,
         Err(fault) => {
             let number = fault.kind.number();
@@ -82,13 +83,13 @@ pub fn show_sheets(
     when: &str,
     place: &mut Place<Points, Seats>,
     desk: &mut Sheets,
-) -> Result<(), Stop> {
+) -> Result<()> {
     println!(rt; "sheets, {when}")?;
-    for sheet in 1..4 {
+    for sheet in ALL {
         show_sizes(rt, place, sheet)?;
     }
     reopen(rt, place, desk)?;
-    for sheet in 1..4 {
+    for sheet in ALL {
         show_sheet(rt, place, sheet, 250)?;
     }
     Ok(())

@@ -17,25 +17,10 @@ pub fn show_call(rt: &HostRuntime, call: Command<'_>) -> io::Result<()> {
     }
 }
 
-// Why a call is refused, in words.
-fn reason(refusal: Refusal) -> &'static str {
-    match refusal {
-        Refusal::Posted => "the round is posted",
-        Refusal::NoTeacher => "there is no such teacher",
-        Refusal::BadWishes => "too many schools, one that does not exist, or one named twice",
-        Refusal::NoLane => "there is no such lane",
-        Refusal::NotOverAsked => "the lane is not over-asked",
-        Refusal::OverAsked => "a lane is over-asked",
-        Refusal::BadCutoff => "no such cutoff can be tried in the lane",
-        Refusal::NotLicensed => "the teacher has no licence for the lane",
-        Refusal::BadRow => "the row has not one byte a teacher",
-    }
-}
-
+// The number of the refusal, and what it says in words.
 fn show_refusal(rt: &HostRuntime, refusal: Refusal) -> io::Result<()> {
     let number = refusal.number();
-    let why = reason(refusal);
-    println!(rt; " -> refused {number} ({why})")
+    println!(rt; " -> refused {number} ({refusal})")
 }
 
 fn show_settled(rt: &HostRuntime, settled: Settled) -> io::Result<()> {
@@ -51,16 +36,15 @@ fn show_settled(rt: &HostRuntime, settled: Settled) -> io::Result<()> {
 // What the call answered.
 pub fn show_answer(rt: &HostRuntime, answer: Answer) -> io::Result<()> {
     match answer {
-        Answer::Pending => println!(rt; " -> not carried out"),
         Answer::Wish(Ok(())) => println!(rt; " -> accepted (all cutoffs go back to 1)"),
         Answer::Press(Ok(())) => println!(rt; " -> accepted"),
         Answer::Sweep(Ok(raised)) => println!(rt; " -> accepted (lanes raised: {raised})"),
         Answer::Settle(Ok(settled)) => show_settled(rt, settled),
         Answer::Post(Ok(())) => println!(rt; " -> accepted (the round is posted)"),
-        Answer::Wish(Err(refusal)) => show_refusal(rt, refusal),
-        Answer::Press(Err(refusal)) => show_refusal(rt, refusal),
-        Answer::Sweep(Err(refusal)) => show_refusal(rt, refusal),
-        Answer::Settle(Err(refusal)) => show_refusal(rt, refusal),
-        Answer::Post(Err(refusal)) => show_refusal(rt, refusal),
+        Answer::Wish(Err(refusal))
+        | Answer::Press(Err(refusal))
+        | Answer::Sweep(Err(refusal))
+        | Answer::Settle(Err(refusal))
+        | Answer::Post(Err(refusal)) => show_refusal(rt, refusal),
     }
 }

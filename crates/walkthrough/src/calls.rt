@@ -1,11 +1,8 @@
 // The calls of the sample round.
 use round::Command;
 
-// How many calls there are.
-pub const CALLS: usize = 10;
-
 // A bit of everything: calls that are refused, each way to raise cutoffs, a change of mind, and the posting.
-pub fn sample_calls() -> [Command<'static>; CALLS] {
+pub fn sample_calls() -> [Command<'static>; 10] {
     [
         Command::Press(4),
         Command::Post,

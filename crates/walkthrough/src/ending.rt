@@ -6,7 +6,7 @@ ghost use Rattle.walkthrough.specs.Sources.{wished_at, source as source_of};
 use crate::lanes::show_lanes;
 use crate::walk::Walk;
 use sheets::{Lane, Teacher};
-use std::io;
+use std::{fmt, io};
 
 // How a lane came onto the teacher's pick list.
 #[derive(Clone, Copy)]
@@ -23,12 +23,7 @@ enum Source {
 fn place_in(wishes: &[u16], school: u16) -> Option<usize>
     ensures { result ≡ wished_at school wishes.now }
 {
-    for (i, wish) in wishes.iter().enumerate() {
-        if *wish == school {
-            return Some(i);
-        }
-    }
-    None
+    wishes.iter().position(|wish| *wish == school)
 }
 
 // Where the lane came from onto the teacher's pick list.
@@ -37,49 +32,30 @@ fn source_of(teacher: &Teacher, lane: &Lane) -> Source
 {
     match place_in(teacher.wish.as_slice(), lane.school) {
         Some(i) => Source::Wish(i),
-        None => {
-            if lane.subject == teacher.main {
-                Source::OwnSubject
-            } else {
-                Source::OtherSubject
-            }
+        None if lane.subject == teacher.main => Source::OwnSubject,
+        None => Source::OtherSubject,
+    }
+}
+
+// The twelve places of a wish list.
+const PLACES: [&str; 12] = [
+    "first", "second", "third", "fourth", "fifth", "sixth", "seventh", "eighth", "ninth", "tenth",
+    "eleventh", "twelfth",
+];
+
+impl fmt::Display for Source {
+    fn fmt<W: fmt::Write>(&self, f: &mut fmt::Formatter<W>) -> fmt::Result {
+        match self {
+            Source::Wish(i) => write!(f, "{} wish", PLACES.get(*i).unwrap_or(&"twelfth")),
+            Source::OwnSubject => f.write_str("not wished: own subject's continuation"),
+            Source::OtherSubject => f.write_str("not wished: a further subject's continuation"),
         }
-    }
-}
-
-// The wish at the place, from 0; there are at most 12.
-fn wish_name(i: usize) -> &'static str {
-    match i {
-        0 => "first wish",
-        1 => "second wish",
-        2 => "third wish",
-        3 => "fourth wish",
-        4 => "fifth wish",
-        5 => "sixth wish",
-        6 => "seventh wish",
-        7 => "eighth wish",
-        8 => "ninth wish",
-        9 => "tenth wish",
-        10 => "eleventh wish",
-        _ => "twelfth wish",
-    }
-}
-
-fn source_name(source: Source) -> &'static str {
-    match source {
-        Source::Wish(i) => wish_name(i),
-        Source::OwnSubject => "not wished: own subject's continuation",
-        Source::OtherSubject => "not wished: a further subject's continuation",
     }
 }
 
 // The lane with the number, if there is one.
 fn lane_numbered(lanes: &[Lane], number: u16) -> Option<&Lane> {
-    if number == 0 {
-        None
-    } else {
-        lanes.get((number - 1) as usize)
-    }
+    lanes.get(usize::from(number).checked_sub(1)?)
 }
 
 fn show_teacher(rt: &HostRuntime, number: u16, teacher: &Teacher) -> io::Result<()> {
@@ -101,7 +77,7 @@ fn show_seat(rt: &HostRuntime, walk: &Walk, number: u16, teacher: &Teacher) -> i
     };
     let school = lane.school;
     let subject = lane.subject;
-    let source = source_name(source_of(teacher, lane));
+    let source = source_of(teacher, lane);
     println!(rt; "lane {offer}, school {school}, subject {subject}; {source}")
 }
 
@@ -110,9 +86,7 @@ pub fn show_ending(rt: &HostRuntime, walk: &Walk) -> io::Result<()> {
     println!(rt; "who sits where, by lane:")?;
     show_lanes(rt, walk, "has")?;
     println!(rt; "who sits where, by teacher:")?;
-    let mut number: u16 = 0;
-    for teacher in walk.teachers() {
-        number = number.saturating_add(1);
+    for (number, teacher) in (1..=walk.teacher_count()).zip(walk.teachers()) {
         show_teacher(rt, number, teacher)?;
         show_seat(rt, walk, number, teacher)?;
     }

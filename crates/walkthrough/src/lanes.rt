@@ -1,40 +1,28 @@
 // What is asked of all lanes at one line of the log, and how it is shown.
 use crate::walk::Walk;
-use bounded::BoundedList;
 use sheets::Lane;
+use std::alloc::{AllocError, Global};
 use std::io;
 
 // The cutoffs of all lanes, lane 1 first.
-fn cutoffs(walk: &Walk) -> BoundedList<80> {
-    let mut out = BoundedList::new();
-    for lane in 1..=walk.lane_count() {
-        if let Some(cutoff) = walk.cutoff(lane) {
-            let _ = out.push(cutoff);
-        }
-    }
-    out
+fn cutoffs(heap: Global, walk: &Walk) -> Result<Vec<u16>, AllocError> {
+    (1..=walk.lane_count())
+        .filter_map(|lane| walk.cutoff(lane))
+        .collect(heap)
 }
 
 // The lanes that are over-asked.
-fn over_asked(walk: &Walk) -> BoundedList<80> {
-    let mut out = BoundedList::new();
-    for lane in 1..=walk.lane_count() {
-        if walk.is_over_asked(lane) {
-            let _ = out.push(lane);
-        }
-    }
-    out
+fn over_asked(heap: Global, walk: &Walk) -> Result<Vec<u16>, AllocError> {
+    (1..=walk.lane_count())
+        .filter(|lane| walk.is_over_asked(*lane))
+        .collect(heap)
 }
 
 // The teachers whose offer the lane is.
-fn askers(walk: &Walk, lane: u16) -> BoundedList<200> {
-    let mut out = BoundedList::new();
-    for teacher in 1..=walk.teacher_count() {
-        if walk.offer(teacher) == Some(lane) {
-            let _ = out.push(teacher);
-        }
-    }
-    out
+fn askers(heap: Global, walk: &Walk, lane: u16) -> Result<Vec<u16>, AllocError> {
+    (1..=walk.teacher_count())
+        .filter(|teacher| walk.offer(*teacher) == Some(lane))
+        .collect(heap)
 }
 
 // The numbers, with commas between them.
@@ -65,13 +53,13 @@ pub fn show_named(rt: &HostRuntime, noun: &str, numbers: &[u16]) -> io::Result<(
 // The cutoffs, and which lanes are over-asked.
 pub fn show_cutoffs(rt: &HostRuntime, walk: &Walk) -> io::Result<()> {
     print!(rt; "  cutoffs ")?;
-    show_numbers(rt, cutoffs(walk).as_slice())?;
+    show_numbers(rt, &cutoffs(rt.alloc(), walk)?)?;
     print!(rt; "\n  over-asked lanes: ")?;
-    let lanes = over_asked(walk);
-    if lanes.len() == 0 {
+    let lanes = over_asked(rt.alloc(), walk)?;
+    if lanes.is_empty() {
         print!(rt; "none")?;
     }
-    show_numbers(rt, lanes.as_slice())?;
+    show_numbers(rt, &lanes)?;
     println!(rt; "")
 }
 
@@ -85,12 +73,10 @@ fn show_lane(rt: &HostRuntime, number: u16, lane: &Lane) -> io::Result<()> {
 
 // A line for each lane: what it is, and the teachers whose offer it is.
 pub fn show_lanes(rt: &HostRuntime, walk: &Walk, verb: &str) -> io::Result<()> {
-    let mut number: u16 = 0;
-    for lane in walk.lanes() {
-        number = number.saturating_add(1);
+    for (number, lane) in (1..=walk.lane_count()).zip(walk.lanes()) {
         show_lane(rt, number, lane)?;
         print!(rt; " {verb} ")?;
-        show_named(rt, "teacher", askers(walk, number).as_slice())?;
+        show_named(rt, "teacher", &askers(rt.alloc(), walk, number)?)?;
         println!(rt; "")?;
     }
     Ok(())

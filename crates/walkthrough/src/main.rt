@@ -7,21 +7,20 @@ mod ending;
 mod files;
 mod lanes;
 mod offers;
-mod stop;
 mod story;
 mod walk;
 
+use anyhow::Result;
 use calls::sample_calls;
 use ending::show_ending;
-use files::read_sheet;
+use sheet_files::read_sheet;
 use std::process::ExitCode;
-use stop::Stop;
 use story::{show_calls, show_opening};
 use walk::open_walk;
 
-fn run(rt: &HostRuntime) -> Result<(), Stop> {
-    let posts = read_sheet(rt, "posts.txt")?;
-    let staff = read_sheet(rt, "staff.txt")?;
+fn run(rt: &HostRuntime) -> Result<()> {
+    let posts = read_sheet(rt, "walkthrough", "posts.txt")?;
+    let staff = read_sheet(rt, "walkthrough", "staff.txt")?;
     let mut walk = open_walk(rt, &posts, &staff)?;
     show_opening(rt, &walk)?;
     show_calls(rt, &mut walk, &sample_calls())?;

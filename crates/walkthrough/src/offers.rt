@@ -11,10 +11,9 @@ pub struct Offers {
 
 // The offers as they are now.
 pub fn offers_now(heap: Global, walk: &Walk) -> Result<Offers, AllocError> {
-    let mut lanes = Vec::new(heap);
-    for teacher in 1..=walk.teacher_count() {
-        lanes.push(walk.offer(teacher))?;
-    }
+    let lanes = (1..=walk.teacher_count())
+        .map(|teacher| walk.offer(teacher))
+        .collect(heap)?;
     Ok(Offers { lanes })
 }
 

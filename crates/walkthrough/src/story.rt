@@ -1,6 +1,5 @@
 // The log of the round, a block for each of its lines.
 use crate::answers::{show_answer, show_call};
-use crate::calls::CALLS;
 use crate::lanes::{show_cutoffs, show_lanes};
 use crate::offers::{offers_now, show_moves};
 use crate::walk::Walk;
@@ -32,13 +31,9 @@ fn show_line(rt: &HostRuntime, walk: &mut Walk, line: usize, call: Command<'_>) 
 }
 
 // Carries out the calls, from line 2 on.
-pub fn show_calls(
-    rt: &HostRuntime,
-    walk: &mut Walk,
-    calls: &[Command<'_>; CALLS],
-) -> io::Result<()> {
-    for i in 0..CALLS {
-        show_line(rt, walk, i + 2, calls[i])?;
+pub fn show_calls(rt: &HostRuntime, walk: &mut Walk, calls: &[Command<'_>]) -> io::Result<()> {
+    for (i, call) in calls.iter().enumerate() {
+        show_line(rt, walk, i.saturating_add(2), *call)?;
     }
     Ok(())
 }

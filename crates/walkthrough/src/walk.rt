@@ -12,7 +12,7 @@ ghost use Rattle.walkthrough.specs.Opened.{OpenedWith};
 ghost use Rattle.walkthrough.specs.Asked.{offered, known, holds};
 
 use crate::files::show_fault;
-use crate::stop::Stop;
+use anyhow::Result;
 use book::Book;
 use lines::Fault;
 use round::{Answer, Command, Place};
@@ -46,14 +46,14 @@ fn opened(
 }
 
 // Opens the round of the two sheets; a fault is shown on the standard error.
-pub fn open_walk(rt: &HostRuntime, posts: &[u8], staff: &[u8]) -> Result<Walk, Stop> {
+pub fn open_walk(rt: &HostRuntime, posts: &[u8], staff: &[u8]) -> Result<Walk> {
     let mut sheets = Sheets::reserve(rt.alloc())?;
     let memory = Book::reserve(rt.alloc())?;
     match opened(&mut sheets, memory, posts, staff) {
         Ok(place) => Ok(Walk { place, sheets }),
         Err(fault) => {
             show_fault(rt, fault)?;
-            Err(Stop::BadFile)
+            Err(fault.into())
         }
     }
 }
@@ -120,10 +120,7 @@ impl Walk {
     pub fn offer(&self, teacher: u16) -> Option<u16>
         ensures { result ≡ offered (offer_asked teacher (place_of self.now.place).round) }
     {
-        match self.place.offer(teacher) {
-            Ok(lane) => lane,
-            Err(_) => None,
-        }
+        self.place.offer(teacher).ok().flatten()
     }
 
     // The lane's cutoff; every lane of the round has one.
