@@ -1,19 +1,16 @@
 // Buffers that are one byte too short, just long enough, and too long.
-use crate::sample::{sheet_name, sound};
-use sheets::{Sheets, WriteRefusal};
+use crate::sample::{BOTH, SOUND};
+use crate::shown::{Reader, write_sheet};
+use lines::Sheet;
+use sheets::WriteRefusal;
 use std::io;
 
-// Are they all this byte?
-fn all_are(bytes: &[u8], b: u8) -> bool {
-    for x in bytes {
-        if *x != b {
-            return false;
-        }
-    }
-    true
+// Has no byte been written over the bytes 7 of a fresh buffer?
+fn is_untouched(bytes: &[u8]) -> bool {
+    bytes.iter().all(|b| *b == 7)
 }
 
-// Tells what came of writing the sheet into a buffer of bytes 7.
+// Tells what came of writing the sheet into a fresh buffer.
 fn show_answer(
     rt: &HostRuntime,
     sheet: &[u8],
@@ -23,61 +20,54 @@ fn show_answer(
     let size = buf.len();
     match answer {
         Ok(n) => {
-            let whole = n == sheet.len() && n <= size && &buf[0..n] == sheet;
-            let rest = n <= size && all_are(&buf[n..], 7);
+            let whole = buf.get(..n) == Some(sheet);
+            let rest = buf.get(n..).is_some_and(is_untouched);
             println!(rt; "{n} bytes into {size}: the sheet {whole}, bytes behind untouched {rest}")
         }
         Err(refusal) => {
             let number = refusal.number();
-            let same = all_are(buf, 7);
+            let same = is_untouched(buf);
             println!(rt; "refused {number} at {size}: untouched {same}")
         }
     }
 }
 
-// Writes the sheet into a buffer of this size; the bytes are what it should be.
-fn show_write(
-    rt: &HostRuntime,
-    sheets: &Sheets,
-    sheet: u8,
-    size: usize,
-    bytes: &[u8],
-) -> io::Result<()> {
-    let name = sheet_name(sheet);
-    let mut buf = vec![in rt.alloc(); 7u8; size]?;
-    let answer = if sheet == 2 {
-        sheets.write_staff(&mut buf)
-    } else {
-        sheets.write_posts(&mut buf)
-    };
-    print!(rt; "{name}, ")?;
-    show_answer(rt, bytes, &buf, answer)
-}
-
-// No buffer at all, one byte too short, just long enough, and three bytes too long.
-fn show_sizes(rt: &HostRuntime, sheets: &Sheets, sheet: u8) -> io::Result<()> {
-    let bytes = sound(sheet);
-    show_write(rt, sheets, sheet, 0, bytes)?;
-    show_write(rt, sheets, sheet, bytes.len().saturating_sub(1), bytes)?;
-    show_write(rt, sheets, sheet, bytes.len(), bytes)?;
-    show_write(rt, sheets, sheet, bytes.len().saturating_add(3), bytes)
-}
-
-// Of nothing the sheets are empty, which fits any buffer.
-pub(crate) fn show_blank(rt: &HostRuntime, sheets: &Sheets) -> io::Result<()> {
-    for sheet in 1..3u8 {
-        show_write(rt, sheets, sheet, 0, b"")?;
-        show_write(rt, sheets, sheet, 3, b"")?;
+// Writes the sheet into buffers of these sizes; the bytes are what it should be.
+fn show_writes(reader: &Reader, sheet: Sheet, sizes: &[usize], bytes: &[u8]) -> io::Result<()> {
+    let rt = reader.rt;
+    for size in sizes {
+        let mut buf = vec![in rt.alloc(); 7u8; *size]?;
+        let answer = write_sheet(&reader.sheets, sheet, &mut buf);
+        print!(rt; "{sheet}, ")?;
+        show_answer(rt, bytes, &buf, answer)?;
     }
     Ok(())
 }
 
-pub(crate) fn show_buffers(rt: &HostRuntime, sheets: &mut Sheets) -> io::Result<()> {
-    let sound_pair = sheets.read(sound(1), sound(2)).is_ok();
-    println!(rt; "the sound pair is read: {sound_pair}")?;
-    show_sizes(rt, sheets, 1)?;
-    show_sizes(rt, sheets, 2)?;
-    let sound_pair = sheets.read(sound(1), b"").is_ok();
-    println!(rt; "the same with an empty staff sheet is read: {sound_pair}")?;
-    show_blank(rt, sheets)
+// No buffer at all, one byte too short, just long enough, and three bytes too long.
+fn show_sizes(reader: &Reader, sheet: Sheet) -> io::Result<()> {
+    let bytes = SOUND.sheet(sheet);
+    let n = bytes.len();
+    let sizes = [0, n.saturating_sub(1), n, n.saturating_add(3)];
+    show_writes(reader, sheet, &sizes, bytes)
+}
+
+// Of nothing the sheets are empty, which fits any buffer.
+pub(crate) fn show_blank(reader: &Reader) -> io::Result<()> {
+    for sheet in BOTH {
+        show_writes(reader, sheet, &[0, 3], b"")?;
+    }
+    Ok(())
+}
+
+pub(crate) fn show_buffers(reader: &mut Reader) -> io::Result<()> {
+    let rt = reader.rt;
+    let is_read = reader.read(SOUND).is_ok();
+    println!(rt; "the sound pair is read: {is_read}")?;
+    for sheet in BOTH {
+        show_sizes(reader, sheet)?;
+    }
+    let is_read = reader.read(SOUND.with(Sheet::Staff, b"")).is_ok();
+    println!(rt; "the same with an empty staff sheet is read: {is_read}")?;
+    show_blank(reader)
 }

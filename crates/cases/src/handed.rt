@@ -3,47 +3,29 @@ use sheets::line_text;
 use std::io;
 use std::io::Write;
 
-// A sheet number and a place.
-#[derive(Clone, Copy)]
-struct Asked {
-    sheet: u8,
-    place: usize,
-}
-
-static ASKED: [Asked; 13] = [
-    Asked { sheet: 1, place: 0 },
-    Asked { sheet: 1, place: 2 },
-    Asked { sheet: 1, place: 3 },
-    Asked { sheet: 1, place: 4 },
-    Asked { sheet: 1, place: 5 },
-    Asked { sheet: 1, place: 7 },
-    Asked { sheet: 1, place: 8 },
-    Asked {
-        sheet: 1,
-        place: 99,
-    },
-    Asked { sheet: 2, place: 0 },
-    Asked { sheet: 2, place: 3 },
-    Asked { sheet: 2, place: 4 },
-    Asked { sheet: 0, place: 0 },
-    Asked {
-        sheet: 255,
-        place: 5,
-    },
+// The numbers of sheets, with 0 and 255 that no sheet has, and places.
+static ASKED: [(u8, usize); 13] = [
+    (1, 0),
+    (1, 2),
+    (1, 3),
+    (1, 4),
+    (1, 5),
+    (1, 7),
+    (1, 8),
+    (1, 99),
+    (2, 0),
+    (2, 3),
+    (2, 4),
+    (0, 0),
+    (255, 5),
 ];
 
-fn show_asked(rt: &HostRuntime, asked: Asked) -> io::Result<()> {
-    let sheet = asked.sheet;
-    let place = asked.place;
-    print!(rt; "of [one..two] and [3..4], sheet {sheet}, place {place}: [")?;
-    let mut out = rt.stdout();
-    out.write_all(line_text(b"one\n\ntwo", b"3\n4\n", sheet, place))?;
-    println!(rt; "]")
-}
-
 pub(crate) fn show_handed(rt: &HostRuntime) -> io::Result<()> {
-    for asked in &ASKED {
-        show_asked(rt, *asked)?;
+    let mut out = rt.stdout();
+    for (sheet, place) in ASKED {
+        print!(rt; "of [one..two] and [3..4], sheet {sheet}, place {place}: [")?;
+        out.write_all(line_text(b"one\n\ntwo", b"3\n4\n", sheet, place))?;
+        println!(rt; "]")?;
     }
     Ok(())
 }

@@ -13,21 +13,20 @@ mod wholes;
 use buffers::{show_blank, show_buffers};
 use handed::show_handed;
 use largest::show_largest;
-use sheets::Sheets;
+use shown::Reader;
 use std::io;
 use swaps::show_swaps;
 use tally::show_tallies;
 use wholes::show_wholes;
 
 fn main(rt: HostRuntime) -> io::Result<()> {
-    let mut sheets = Sheets::reserve(rt.alloc())?;
-    let mut room = vec![in rt.alloc(); 0u8; 30000]?;
+    let mut reader = Reader::reserve(&rt)?;
     println!(rt; "before anything is read:")?;
-    show_blank(&rt, &sheets)?;
-    show_swaps(&rt, &mut sheets, &mut room)?;
-    show_wholes(&rt, &mut sheets, &mut room)?;
-    show_tallies(&rt, &mut sheets)?;
-    show_largest(&rt, &mut sheets, &mut room)?;
-    show_buffers(&rt, &mut sheets)?;
+    show_blank(&reader)?;
+    show_swaps(&mut reader)?;
+    show_wholes(&mut reader)?;
+    show_tallies(&mut reader)?;
+    show_largest(&mut reader)?;
+    show_buffers(&mut reader)?;
     show_handed(&rt)
 }

@@ -1,50 +1,58 @@
 // A sound pair of sheets, and what can be made of one.
-ghost use Rattle.std.specs.Prelude.{◌≤◌, length};
-
+use lines::Sheet;
 use std::alloc::{AllocError, Global};
 
-// Sheet 2 is staff, and any other number means posts.
-pub(crate) fn sheet_name(sheet: u8) -> &'static str {
-    if sheet == 2 { "staff" } else { "posts" }
+pub(crate) const BOTH: [Sheet; 2] = [Sheet::Posts, Sheet::Staff];
+
+pub(crate) const SOUND: Pair<'static> = Pair {
+    posts: b"schools=3\nsubjects=3\nlanes=2\nlane=1,1,2\nlist=2,1\nlane=1,3,60000\nlist=\n",
+    staff: b"teachers=2\nhome=0\nmain=3\nalso=1,2\nwish=2,1\npoints=50\ncost=100\nhome=2\nmain=1\nalso=\nwish=\npoints=0\ncost=0\n",
+};
+
+// The bytes of two sheets that are read together.
+#[derive(Clone, Copy)]
+pub(crate) struct Pair<'a> {
+    pub(crate) posts: &'a [u8],
+    pub(crate) staff: &'a [u8],
 }
 
-pub(crate) fn sound(sheet: u8) -> &'static [u8] {
-    if sheet == 2 {
-        b"teachers=2\nhome=0\nmain=3\nalso=1,2\nwish=2,1\npoints=50\ncost=100\nhome=2\nmain=1\nalso=\nwish=\npoints=0\ncost=0\n"
-    } else {
-        b"schools=3\nsubjects=3\nlanes=2\nlane=1,1,2\nlist=2,1\nlane=1,3,60000\nlist=\n"
+impl<'a> Pair<'a> {
+    pub(crate) fn new(posts: &'a [u8], staff: &'a [u8]) -> Pair<'a> {
+        Pair { posts, staff }
+    }
+
+    // The bytes of this sheet.
+    pub(crate) fn sheet(self, sheet: Sheet) -> &'a [u8] {
+        match sheet {
+            Sheet::Posts => self.posts,
+            Sheet::Staff => self.staff,
+        }
+    }
+
+    // The pair with these bytes in the place of the sheet.
+    pub(crate) fn with(self, sheet: Sheet, bytes: &'a [u8]) -> Pair<'a> {
+        match sheet {
+            Sheet::Posts => Pair::new(bytes, self.staff),
+            Sheet::Staff => Pair::new(self.posts, bytes),
+        }
     }
 }
 
-// Where the line begins, which goes by its number, from 1; the end where there is no such line.
-fn line_start(bytes: &[u8], line: usize) -> usize
-    ensures { result ≤ length bytes.now }
-{
-    let mut now_at = 1usize;
-    for i in 0..bytes.len() {
-        if now_at == line {
-            return i;
-        }
-        if bytes[i] == b'\n' {
-            now_at = now_at.saturating_add(1);
-        }
-    }
-    bytes.len()
-}
-
-// The sheet with the text in the place of the line.
+// The sheet with the text in the place of the line, which goes by its number, from 1.
 pub(crate) fn swapped(
     heap: Global,
     bytes: &[u8],
     line: usize,
     text: &str,
 ) -> Result<Vec<u8>, AllocError> {
-    let start = line_start(bytes, line);
-    let behind = line_start(bytes, line.saturating_add(1));
     let mut out = Vec::new(heap);
-    out.extend_from_slice(&bytes[0..start])?;
-    out.extend_from_slice(text.as_bytes())?;
-    out.extend_from_slice(b"\n")?;
-    out.extend_from_slice(&bytes[behind..])?;
+    for (number, old) in (1..).zip(bytes.split_inclusive(|b| *b == b'\n')) {
+        if number == line {
+            out.extend_from_slice(text.as_bytes())?;
+            out.push(b'\n')?;
+        } else {
+            out.extend_from_slice(old)?;
+        }
+    }
     Ok(out)
 }

@@ -1,78 +1,90 @@
 // What reading answers and what is written then, shown on the rest of a line.
-use lines::{Fault, Layer};
+use crate::sample::Pair;
+use lines::{Fault, Sheet};
 use sheets::{Sheets, WriteRefusal, line_text};
 use std::io;
 use std::io::Write;
 
-// Was this sheet written into the room?
-fn is_written(answer: Result<usize, WriteRefusal>, room: &[u8], sheet: &[u8]) -> bool {
-    match answer {
-        Ok(n) => n == sheet.len() && n <= room.len() && &room[0..n] == sheet,
-        Err(_) => false,
+// Reads one pair of sheets after another into the same tables, with room to write each sheet back.
+#[derive(Drop)]
+pub(crate) struct Reader<'a> {
+    pub(crate) rt: &'a HostRuntime,
+    pub(crate) sheets: Sheets,
+    room: Vec<u8>,
+}
+
+// Writes this sheet of the tables.
+pub(crate) fn write_sheet(
+    sheets: &Sheets,
+    sheet: Sheet,
+    buf: &mut [u8],
+) -> Result<usize, WriteRefusal> {
+    match sheet {
+        Sheet::Posts => sheets.write_posts(buf),
+        Sheet::Staff => sheets.write_staff(buf),
     }
 }
 
 // Is nothing there to write?
 fn is_blank(sheets: &Sheets) -> bool {
-    let mut nothing: [u8; 0] = [];
-    let posts = sheets.write_posts(&mut nothing);
-    let staff = sheets.write_staff(&mut nothing);
-    matches!(posts, Ok(0)) && matches!(staff, Ok(0))
+    sheets.write_posts(&mut []) == Ok(0) && sheets.write_staff(&mut []) == Ok(0)
 }
 
-fn show_written(
-    rt: &HostRuntime,
-    sheets: &Sheets,
-    room: &mut [u8],
-    posts: &[u8],
-    staff: &[u8],
-) -> io::Result<()> {
-    let answer = sheets.write_posts(room);
-    let posts_back = is_written(answer, room, posts);
-    let answer = sheets.write_staff(room);
-    let staff_back = is_written(answer, room, staff);
-    let m = posts.len();
-    let n = staff.len();
-    if posts_back && staff_back {
-        println!(rt; "read, and written back: {m} and {n} bytes")
-    } else {
-        println!(rt; "read, and NOT written back")
+impl<'a> Reader<'a> {
+    pub(crate) fn reserve(rt: &'a HostRuntime) -> io::Result<Reader<'a>> {
+        let sheets = Sheets::reserve(rt.alloc())?;
+        let room = vec![in rt.alloc(); 0u8; 30000]?;
+        Ok(Reader { rt, sheets, room })
     }
-}
 
-fn show_fault(rt: &HostRuntime, posts: &[u8], staff: &[u8], fault: Fault) -> io::Result<()> {
-    let number = fault.kind.number();
-    let sheet = fault.sheet;
-    let line = fault.line;
-    let place = fault.place;
-    let layer = match fault.layer {
-        Layer::Line => "line",
-        Layer::Sheet => "sheet",
-    };
-    print!(rt;
-        "refused {number}, sheet {sheet}, line {line}, place {place}, found by the {layer}, text ["
-    )?;
-    let mut out = rt.stdout();
-    out.write_all(line_text(posts, staff, sheet, place))
-}
+    // Reads the pair, and shows the answer. A sound pair is written back and compared; after a fault nothing is left.
+    pub(crate) fn show(&mut self, pair: Pair) -> io::Result<()> {
+        match self.read(pair) {
+            Ok(()) => self.show_written(pair),
+            Err(fault) => self.show_fault(pair, fault),
+        }
+    }
 
-// Reads the two sheets, and shows the answer. A sound pair is written back and compared; after a fault nothing is left.
-pub(crate) fn show_reading(
-    rt: &HostRuntime,
-    sheets: &mut Sheets,
-    room: &mut [u8],
-    posts: &[u8],
-    staff: &[u8],
-) -> io::Result<()> {
-    match sheets.read(posts, staff) {
-        Ok(()) => show_written(rt, sheets, room, posts, staff),
-        Err(fault) => {
-            show_fault(rt, posts, staff, fault)?;
-            if is_blank(sheets) {
-                println!(rt; "], then blank")
-            } else {
-                println!(rt; "], then NOT blank")
-            }
+    // Reads the pair, and shows nothing.
+    pub(crate) fn read(&mut self, pair: Pair) -> Result<(), Fault> {
+        self.sheets.read(pair.posts, pair.staff)
+    }
+
+    // Are the tables written back as this sheet of the pair?
+    fn is_written(&mut self, pair: Pair, sheet: Sheet) -> bool {
+        let answer = write_sheet(&self.sheets, sheet, &mut self.room);
+        answer.is_ok_and(|n| self.room.get(..n) == Some(pair.sheet(sheet)))
+    }
+
+    // Tells whether both sheets of the pair were written back.
+    fn show_written(&mut self, pair: Pair) -> io::Result<()> {
+        let posts_back = self.is_written(pair, Sheet::Posts);
+        let staff_back = self.is_written(pair, Sheet::Staff);
+        if posts_back && staff_back {
+            let m = pair.posts.len();
+            let n = pair.staff.len();
+            println!(self.rt; "read, and written back: {m} and {n} bytes")
+        } else {
+            println!(self.rt; "read, and NOT written back")
+        }
+    }
+
+    // Tells the fault, and whether it left the tables blank.
+    fn show_fault(&self, pair: Pair, fault: Fault) -> io::Result<()> {
+        let rt = self.rt;
+        let number = fault.kind.number();
+        let sheet = fault.sheet.number();
+        let place = fault.place;
+        print!(rt;
+            "refused {number}, sheet {sheet}, line {}, place {place}, found by the {}, text [",
+            fault.line, fault.layer
+        )?;
+        let mut out = rt.stdout();
+        out.write_all(line_text(pair.posts, pair.staff, sheet, place))?;
+        if is_blank(&self.sheets) {
+            println!(rt; "], then blank")
+        } else {
+            println!(rt; "], then NOT blank")
         }
     }
 }

@@ -1,37 +1,25 @@
 // Many readings at once: how many were sound, and how many were refused under each number.
-use crate::sample::{sheet_name, sound};
-use lines::Fault;
-use sheets::Sheets;
+use crate::sample::{BOTH, SOUND};
+use crate::shown::Reader;
+use lines::{Fault, Sheet};
 use std::io;
 
-// The sums of the lines and places of the faults stand for where they were.
-#[derive(Drop)]
+// The counts of refusals stand at the refusal's number, and none has number 0. The sums of the lines and places of the faults stand for where they were.
+#[derive(Default, Drop)]
 struct Tally {
     sound: u32,
     refused: [u32; 9],
-    lines: u32,
-    places: u32,
+    lines: usize,
+    places: usize,
 }
 
 impl Tally {
-    fn new() -> Tally {
-        Tally {
-            sound: 0,
-            refused: [0; 9],
-            lines: 0,
-            places: 0,
-        }
-    }
-
     fn note_fault(&mut self, fault: Fault) {
-        let k = fault.kind.number() as usize;
-        if k < 9 {
-            self.refused[k] = self.refused[k].saturating_add(1);
+        if let Some(count) = self.refused.get_mut(fault.kind.number() as usize) {
+            *count = count.saturating_add(1);
         }
-        if fault.line < 1000 && fault.place < 1000 {
-            self.lines = self.lines.saturating_add(fault.line as u32);
-            self.places = self.places.saturating_add(fault.place as u32);
-        }
+        self.lines = self.lines.saturating_add(fault.line);
+        self.places = self.places.saturating_add(fault.place);
     }
 
     fn note(&mut self, answer: Result<(), Fault>) {
@@ -41,12 +29,23 @@ impl Tally {
         }
     }
 
+    // Every byte at the place of the sheet.
+    fn note_bytes(&mut self, reader: &mut Reader, sheet: Sheet, bytes: &mut [u8], at: usize) {
+        let Some(old) = bytes.get(at).copied() else {
+            return;
+        };
+        for b in 0..=u8::MAX {
+            bytes[at] = b;
+            self.note(reader.read(SOUND.with(sheet, bytes)));
+        }
+        bytes[at] = old;
+    }
+
     fn show(&self, rt: &HostRuntime) -> io::Result<()> {
         let sound = self.sound;
         print!(rt; "{sound} sound; refused")?;
-        for k in 1..9 {
-            let n = self.refused[k];
-            print!(rt; " {n} by {k},")?;
+        for (number, count) in self.refused.iter().enumerate().skip(1) {
+            print!(rt; " {count} by {number},")?;
         }
         let lines = self.lines;
         let places = self.places;
@@ -54,64 +53,35 @@ impl Tally {
     }
 }
 
-// Reads the bytes as the sheet, beside the other sheet of the sound pair.
-fn read_beside(sheets: &mut Sheets, sheet: u8, bytes: &[u8]) -> Result<(), Fault> {
-    if sheet == 2 {
-        sheets.read(sound(1), bytes)
-    } else {
-        sheets.read(bytes, sound(2))
+// Every byte at each of the first places of the sheet.
+fn show_bytes(reader: &mut Reader, sheet: Sheet, places: usize, told: &str) -> io::Result<()> {
+    let rt = reader.rt;
+    let mut bytes = SOUND.sheet(sheet).to_vec(rt.alloc())?;
+    let mut tally = Tally::default();
+    // The whole sheet is read while the byte at the place changes, so no iterator may hold its bytes.
+    for at in 0..places {
+        tally.note_bytes(reader, sheet, &mut bytes, at);
     }
-}
-
-// Every byte at the place of the sheet.
-fn tally_at(sheets: &mut Sheets, tally: &mut Tally, sheet: u8, bytes: &mut [u8], at: usize) {
-    if at >= bytes.len() {
-        return;
-    }
-    let old = bytes[at];
-    for b in 0..256u16 {
-        bytes[at] = b as u8;
-        tally.note(read_beside(sheets, sheet, bytes));
-    }
-    bytes[at] = old;
-}
-
-fn show_first_byte(rt: &HostRuntime, sheets: &mut Sheets, sheet: u8) -> io::Result<()> {
-    let name = sheet_name(sheet);
-    let mut bytes = sound(sheet).to_vec(rt.alloc())?;
-    let mut tally = Tally::new();
-    tally_at(sheets, &mut tally, sheet, &mut bytes, 0);
-    print!(rt; "every byte as the first of {name}: ")?;
+    print!(rt; "every byte {told} of {sheet}: ")?;
     tally.show(rt)
 }
 
-fn show_every_byte(rt: &HostRuntime, sheets: &mut Sheets, sheet: u8) -> io::Result<()> {
-    let name = sheet_name(sheet);
-    let mut bytes = sound(sheet).to_vec(rt.alloc())?;
-    let mut tally = Tally::new();
-    for at in 0..bytes.len() {
-        tally_at(sheets, &mut tally, sheet, &mut bytes, at);
-    }
-    print!(rt; "every byte at every place of {name}: ")?;
-    tally.show(rt)
-}
-
-fn show_fronts(rt: &HostRuntime, sheets: &mut Sheets, sheet: u8) -> io::Result<()> {
-    let name = sheet_name(sheet);
-    let bytes = sound(sheet);
-    let mut tally = Tally::new();
+fn show_fronts(reader: &mut Reader, sheet: Sheet) -> io::Result<()> {
+    let bytes = SOUND.sheet(sheet);
+    let mut tally = Tally::default();
+    // n is how long the front is.
     for n in 0..bytes.len() {
-        tally.note(read_beside(sheets, sheet, &bytes[0..n]));
+        tally.note(reader.read(SOUND.with(sheet, &bytes[..n])));
     }
-    print!(rt; "every shorter front of {name}: ")?;
-    tally.show(rt)
+    print!(reader.rt; "every shorter front of {sheet}: ")?;
+    tally.show(reader.rt)
 }
 
-pub(crate) fn show_tallies(rt: &HostRuntime, sheets: &mut Sheets) -> io::Result<()> {
-    for sheet in 1..3u8 {
-        show_first_byte(rt, sheets, sheet)?;
-        show_every_byte(rt, sheets, sheet)?;
-        show_fronts(rt, sheets, sheet)?;
+pub(crate) fn show_tallies(reader: &mut Reader) -> io::Result<()> {
+    for sheet in BOTH {
+        show_bytes(reader, sheet, 1, "as the first")?;
+        show_bytes(reader, sheet, SOUND.sheet(sheet).len(), "at every place")?;
+        show_fronts(reader, sheet)?;
     }
     Ok(())
 }

@@ -1,191 +1,100 @@
 // Whole sheets: too long, empty, cut off, or with something behind; and both sheets faulty.
-use crate::sample::sound;
-use crate::shown::show_reading;
-use sheets::Sheets;
+use crate::sample::{Pair, SOUND};
+use crate::shown::Reader;
+use lines::Sheet::{self, Posts, Staff};
 use std::io;
 
-// Two sheets, with what is told of them.
-#[derive(Clone, Copy)]
-struct Pair {
-    name: &'static str,
-    posts: &'static [u8],
-    staff: &'static [u8],
+const SMALLEST: Pair<'static> = Pair {
+    posts: b"schools=1\nsubjects=1\nlanes=1\nlane=1,1,0\nlist=\n",
+    staff: b"teachers=1\nhome=0\nmain=1\nalso=\nwish=\npoints=0\ncost=0\n",
+};
+
+// What can be wrong with the ends of the smallest round's sheets: what is told of it, the sheet, and its bytes.
+static ENDS: [(&str, Sheet, &[u8]); 6] = [
+    (
+        "the last byte 10 of staff is missing",
+        Staff,
+        b"teachers=1\nhome=0\nmain=1\nalso=\nwish=\npoints=0\ncost=0",
+    ),
+    (
+        "staff has one byte 10 more",
+        Staff,
+        b"teachers=1\nhome=0\nmain=1\nalso=\nwish=\npoints=0\ncost=0\n\n",
+    ),
+    (
+        "the last byte 10 of posts is missing",
+        Posts,
+        b"schools=1\nsubjects=1\nlanes=1\nlane=1,1,0\nlist=",
+    ),
+    (
+        "posts has one byte 10 more",
+        Posts,
+        b"schools=1\nsubjects=1\nlanes=1\nlane=1,1,0\nlist=\n\n",
+    ),
+    (
+        "posts has a byte 13 before each byte 10",
+        Posts,
+        b"schools=1\r\nsubjects=1\r\nlanes=1\r\nlane=1,1,0\r\nlist=\r\n",
+    ),
+    (
+        "posts has an empty second line",
+        Posts,
+        b"schools=1\n\nsubjects=1\nlanes=1\nlane=1,1,0\nlist=\n",
+    ),
+];
+
+fn show_pair(reader: &mut Reader, name: &str, pair: Pair) -> io::Result<()> {
+    print!(reader.rt; "{name}: ")?;
+    reader.show(pair)
 }
 
-fn show_pair(rt: &HostRuntime, sheets: &mut Sheets, room: &mut [u8], pair: Pair) -> io::Result<()> {
-    let name = pair.name;
-    print!(rt; "{name}: ")?;
-    show_reading(rt, sheets, room, pair.posts, pair.staff)
+fn show_small(reader: &mut Reader) -> io::Result<()> {
+    show_pair(reader, "the smallest round", SMALLEST)?;
+    for (name, sheet, bytes) in ENDS {
+        show_pair(reader, name, SMALLEST.with(sheet, bytes))?;
+    }
+    Ok(())
 }
 
-// The smallest round, and what can be wrong with the ends of its sheets.
-fn show_small(rt: &HostRuntime, sheets: &mut Sheets, room: &mut [u8]) -> io::Result<()> {
-    let small: &'static [u8] = b"schools=1\nsubjects=1\nlanes=1\nlane=1,1,0\nlist=\n";
-    let one: &'static [u8] = b"teachers=1\nhome=0\nmain=1\nalso=\nwish=\npoints=0\ncost=0\n";
-    show_pair(
-        rt,
-        sheets,
-        room,
-        Pair {
-            name: "the smallest round",
-            posts: small,
-            staff: one,
-        },
-    )?;
-    let cut: &'static [u8] = b"teachers=1\nhome=0\nmain=1\nalso=\nwish=\npoints=0\ncost=0";
-    show_pair(
-        rt,
-        sheets,
-        room,
-        Pair {
-            name: "the last byte 10 of staff is missing",
-            posts: small,
-            staff: cut,
-        },
-    )?;
-    let more: &'static [u8] = b"teachers=1\nhome=0\nmain=1\nalso=\nwish=\npoints=0\ncost=0\n\n";
-    show_pair(
-        rt,
-        sheets,
-        room,
-        Pair {
-            name: "staff has one byte 10 more",
-            posts: small,
-            staff: more,
-        },
-    )?;
-    let cut: &'static [u8] = b"schools=1\nsubjects=1\nlanes=1\nlane=1,1,0\nlist=";
-    show_pair(
-        rt,
-        sheets,
-        room,
-        Pair {
-            name: "the last byte 10 of posts is missing",
-            posts: cut,
-            staff: one,
-        },
-    )?;
-    let more: &'static [u8] = b"schools=1\nsubjects=1\nlanes=1\nlane=1,1,0\nlist=\n\n";
-    show_pair(
-        rt,
-        sheets,
-        room,
-        Pair {
-            name: "posts has one byte 10 more",
-            posts: more,
-            staff: one,
-        },
-    )?;
-    let returns: &'static [u8] = b"schools=1\r\nsubjects=1\r\nlanes=1\r\nlane=1,1,0\r\nlist=\r\n";
-    show_pair(
-        rt,
-        sheets,
-        room,
-        Pair {
-            name: "posts has a byte 13 before each byte 10",
-            posts: returns,
-            staff: one,
-        },
-    )?;
-    let gap: &'static [u8] = b"schools=1\n\nsubjects=1\nlanes=1\nlane=1,1,0\nlist=\n";
-    show_pair(
-        rt,
-        sheets,
-        room,
-        Pair {
-            name: "posts has an empty second line",
-            posts: gap,
-            staff: one,
-        },
-    )
+fn show_empty(reader: &mut Reader) -> io::Result<()> {
+    let turned = Pair::new(SOUND.staff, SOUND.posts);
+    let behind = Pair::new(
+        b"schools=1\nsubjects=1\nlanes=1\nlane=1,1,0\nlist=\n!",
+        b"!",
+    );
+    let pairs: [(&str, Pair); 6] = [
+        ("posts is empty", SOUND.with(Posts, b"")),
+        ("staff is empty", SOUND.with(Staff, b"")),
+        ("both are empty", Pair::new(b"", b"")),
+        ("a wrong key, and no byte 10", SOUND.with(Posts, b"x")),
+        ("the sheets change places", turned),
+        ("both have something behind", behind),
+    ];
+    for (name, pair) in pairs {
+        show_pair(reader, name, pair)?;
+    }
+    Ok(())
 }
 
-fn show_empty(rt: &HostRuntime, sheets: &mut Sheets, room: &mut [u8]) -> io::Result<()> {
-    show_pair(
-        rt,
-        sheets,
-        room,
-        Pair {
-            name: "posts is empty",
-            posts: b"",
-            staff: sound(2),
-        },
-    )?;
-    show_pair(
-        rt,
-        sheets,
-        room,
-        Pair {
-            name: "staff is empty",
-            posts: sound(1),
-            staff: b"",
-        },
-    )?;
-    show_pair(
-        rt,
-        sheets,
-        room,
-        Pair {
-            name: "both are empty",
-            posts: b"",
-            staff: b"",
-        },
-    )?;
-    show_pair(
-        rt,
-        sheets,
-        room,
-        Pair {
-            name: "a wrong key, and no byte 10",
-            posts: b"x",
-            staff: sound(2),
-        },
-    )?;
-    show_pair(
-        rt,
-        sheets,
-        room,
-        Pair {
-            name: "the sheets change places",
-            posts: sound(2),
-            staff: sound(1),
-        },
-    )?;
-    show_pair(
-        rt,
-        sheets,
-        room,
-        Pair {
-            name: "both have something behind",
-            posts: b"schools=1\nsubjects=1\nlanes=1\nlane=1,1,0\nlist=\n!",
-            staff: b"!",
-        },
-    )
+fn show_long(reader: &mut Reader) -> io::Result<()> {
+    let full = vec![in reader.rt.alloc(); b'\n'; 30000]?;
+    let over = vec![in reader.rt.alloc(); b'\n'; 30001]?;
+    let pairs: [(&str, Pair); 6] = [
+        ("posts is 30000 bytes 10", SOUND.with(Posts, &full)),
+        ("posts is 30001 bytes 10", SOUND.with(Posts, &over)),
+        ("staff is 30000 bytes 10", SOUND.with(Staff, &full)),
+        ("staff is 30001 bytes 10", SOUND.with(Staff, &over)),
+        ("both are 30001 bytes 10", Pair::new(&over, &over)),
+        ("the sound pair again", SOUND),
+    ];
+    for (name, pair) in pairs {
+        show_pair(reader, name, pair)?;
+    }
+    Ok(())
 }
 
-fn show_long(rt: &HostRuntime, sheets: &mut Sheets, room: &mut [u8]) -> io::Result<()> {
-    let full = vec![in rt.alloc(); b'\n'; 30000]?;
-    let over = vec![in rt.alloc(); b'\n'; 30001]?;
-    print!(rt; "posts is 30000 bytes 10: ")?;
-    show_reading(rt, sheets, room, &full, sound(2))?;
-    print!(rt; "posts is 30001 bytes 10: ")?;
-    show_reading(rt, sheets, room, &over, sound(2))?;
-    print!(rt; "staff is 30000 bytes 10: ")?;
-    show_reading(rt, sheets, room, sound(1), &full)?;
-    print!(rt; "staff is 30001 bytes 10: ")?;
-    show_reading(rt, sheets, room, sound(1), &over)?;
-    print!(rt; "both are 30001 bytes 10: ")?;
-    show_reading(rt, sheets, room, &over, &over)?;
-    print!(rt; "the sound pair again: ")?;
-    show_reading(rt, sheets, room, sound(1), sound(2))
-}
-
-pub(crate) fn show_wholes(
-    rt: &HostRuntime,
-    sheets: &mut Sheets,
-    room: &mut [u8],
-) -> io::Result<()> {
-    show_small(rt, sheets, room)?;
-    show_empty(rt, sheets, room)?;
-    show_long(rt, sheets, room)
+pub(crate) fn show_wholes(reader: &mut Reader) -> io::Result<()> {
+    show_small(reader)?;
+    show_empty(reader)?;
+    show_long(reader)
 }
