@@ -16,7 +16,7 @@ returns g c =
     let p = λ (u : ℕ). told c.args.self.now.bands.now u && stands_before (g.S.Standing.ahead c.args.self.now.standing.now) c.args.self.now.lane c.args.self.now.bands.now c.args.t u in
     let n = people c.args.self.now.bands.now in
     let e = count_from_yields_List c.filter.result _ c.count-behind.ensures.ran
-        (YieldsList-from_filter _ p (YieldsList-from_range 0 n n (cc) (omega arith)) c.filter.ensures.closure (λ x b q k. search rules)) in
+    (YieldsList-from_filter _ p (YieldsList-from_range 0 n n (cc) (omega arith)) c.filter.ensures.closure (λ x b q k. search rules)) in
     omega (
       arith,
       e,
