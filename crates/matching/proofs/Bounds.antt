@@ -5,7 +5,7 @@ use Rattle.matching.specs.Count.{sum_to}
 use Rattle.matching.specs.Market.{Market, board_of, Laws, crowd, askers, over_asked}
 use Rattle.matching.specs.Log.{raise, pressed, next, on_some, settled, presses}
 use Rattle.matching.proofs.Counts.{sum_bound, sum_least, sum_one, some_or_none}
-use Rattle.matching.proofs.Lists.{holds_true, not_both, least_some, least_none}
+use Rattle.matching.proofs.Lists.{holds_true, least_some, least_none}
 use Rattle.matching.proofs.RankLaws.{rank_high, crowd_high}
 use Rattle.matching.proofs.Offers.{clears_parts, offer_on, over_parts, raise_yes, raise_no}
 
@@ -67,7 +67,7 @@ module _ (mk : Market) (L : Laws mk) (ps : ℕ → List ℕ) where
     where
       go : (o : Option ℕ) → next (board_of mk) ps s ≡ o → next (board_of mk) ps (on_some o s (λ l. settled (board_of mk) ps b (pressed l s))) ≡ Some x
           → ((u : ℕ → ℕ) → next (board_of mk) ps (settled (board_of mk) ps b u) ≡ Some x → presses (board_of mk) ps b u ≡ b) → on_some o zero (λ l. suc (presses (board_of mk) ps b (pressed l s))) ≡ suc b
-      go None e f ih = not_both (next (board_of mk) ps s) x e f
+      go None e f ih = cc
       go (Some l) e f ih = ap suc (ih (pressed l s) f)
 
   pub used_of : (b : ℕ) (s : ℕ → ℕ) (l : ℕ) → over_asked (board_of mk) ps (settled (board_of mk) ps b s) l ≡ true → presses (board_of mk) ps b s ≡ b

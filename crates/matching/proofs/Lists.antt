@@ -13,12 +13,6 @@ holds_true (Some k) l e = ap Some (eqb-true k l e)
 pub holds_some : (o : Option ℕ) (l : ℕ) → o ≡ Some l → holds o l ≡ true
 holds_some o l e = rw e (eq-eqb l l refl)
 
-pub some_inj : (o : Option ℕ) (k l : ℕ) → o ≡ Some k → o ≡ Some l → k ≡ l
-some_inj o k l p q = cc
-
-pub not_both : {A : Type 0} (o : Option ℕ) (k : ℕ) → o ≡ None → o ≡ Some k → A
-not_both o k p q = let z : ◌≡◌ {A = ℕ} 0 1 = cc in absurd (omega arith)
-
 pub place_le : (l : ℕ) (xs : List ℕ) → place_of l xs ≤ length xs
 unfolding place_of
 place_le l [] = le_refl _
@@ -52,12 +46,12 @@ strictly xs (Some k) l on h n = elim (cases_eq (place_of k xs) (place_of l xs)) 
 -- the first that passes does pass, and is on the list
 pub first_on : (p : ℕ → Bool) (xs : List ℕ) (l : ℕ) → first p xs ≡ Some l → (p l ≡ true) × On l xs
 unfolding first place_of
-first_on p [] l e = not_both None l refl e
+first_on p [] l e = cc
 first_on p (x ∷ xs) l e = go (p x) refl e (first_on p xs l)
   where
     go : (b : Bool) → p x ≡ b → cond b (Some x) (first p xs) ≡ Some l → (first p xs ≡ Some l → (p l ≡ true) × On l xs)
         → (p l ≡ true) × (cond (eqb x l) 0 (suc (place_of l xs)) < suc (length xs))
-    go true q e r = let k : x ≡ l = some_inj (Some x) x l refl e in (rw k at q, rw (eq-eqb x l k) (omega arith))
+    go true q e r = let k : x ≡ l = cc in (rw k at q, rw (eq-eqb x l k) (omega arith))
     go false q e r = ((r e).0, elim (cases_Bool (eqb x l)) [ inl f ↦ rw f (omega arith) | inr f ↦ rw f (omega (arith, (r e).1)) ])
 
 -- no lane on the list that passes is better
@@ -85,7 +79,7 @@ first_stays p r (x ∷ xs) l h q e = go (p x) (r x) refl refl e (first_stays p r
     go : (a b : Bool) → p x ≡ a → r x ≡ b → cond a (Some x) (first p xs) ≡ Some l → (first p xs ≡ Some l → first r xs ≡ Some l)
         → cond b (Some x) (first r xs) ≡ Some l
     go true true f g e i = e
-    go true false f g e i = absurd (both_ways (r x) g (rw (some_inj (Some x) x l refl e) q))
+    go true false f g e i = let k : x ≡ l = cc in absurd (both_ways (r x) g (rw k q))
     go false true f g e i = absurd (both_ways (p x) f (h x g))
     go false false f g e i = i e
 
@@ -93,13 +87,13 @@ first_stays p r (x ∷ xs) l h q e = go (p x) (r x) refl refl e (first_stays p r
 
 pub least_some : (p : ℕ → Bool) (n l : ℕ) → least p n ≡ Some l → (p l ≡ true) × (l < n)
 unfolding least
-least_some p zero l e = not_both None l refl e
+least_some p zero l e = cc
 least_some p (suc n) l e = go (least p n) (p n) refl refl e (least_some p n l)
   where
     go : (o : Option ℕ) (b : Bool) → least p n ≡ o → p n ≡ b → on_some o (cond b (Some n) None) (λ k. Some k) ≡ Some l
         → (least p n ≡ Some l → (p l ≡ true) × (l < n)) → (p l ≡ true) × (l < suc n)
-    go None true f g e r = let k : n ≡ l = some_inj (Some n) n l refl e in (rw k at g, omega arith)
-    go None false f g e r = not_both None l refl e
+    go None true f g e r = let k : n ≡ l = cc in (rw k at g, omega arith)
+    go None false f g e r = cc
     go (Some k) b f g e r = let q = r (cc) in (q.0, omega (arith, q.1))
 
 pub least_none : (p : ℕ → Bool) (n : ℕ) → least p n ≡ None → (k : ℕ) → k < n → p k ≡ false
@@ -109,9 +103,9 @@ least_none p (suc n) e k h = go (least p n) (p n) refl refl e (least_none p n)
   where
     go : (o : Option ℕ) (b : Bool) → least p n ≡ o → p n ≡ b → on_some o (cond b (Some n) None) (λ k. Some k) ≡ None
         → (least p n ≡ None → (k : ℕ) → k < n → p k ≡ false) → p k ≡ false
-    go None true f g e r = not_both (Some n) n e refl
+    go None true f g e r = cc
     go None false f g e r = elim (cases_eq k n) [ inl q ↦ rw q g | inr q ↦ r f k (omega arith) ]
-    go (Some j) b f g e r = not_both (Some j) j e refl
+    go (Some j) b f g e r = cc
 
 -- ---- who asks for which
 

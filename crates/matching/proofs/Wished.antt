@@ -1,9 +1,9 @@
 -- The wishes of a log's last line are those of the last accepted wishes. Assumes nothing.
 use Rattle.std.proofs.Common.{◌≡◌, ℕ, zero, suc, ◌+◌, ◌-◌, ◌<◌, ◌≤◌, true, false, not, ◌&&◌, eqb, ltb, leb, ◌⊎◌, List, [], ◌∷◌, ◌++◌, length, get_or, take, sym, refl, ap, ◌∙◌, subst, inl, inr, le_refl, arith, take_all, take-suc}
-use Rattle.std.proofs.lemmas.Bool.{cases_Bool, cases_eq, cases_order, both_ways, and_parts, ltb-true, eq-eqb, ne_eqb, cond-true, cond-false, cond_both}
+use Rattle.std.proofs.lemmas.Bool.{cases_Bool, cases_eq, both_ways, and_parts, ltb-true, eq-eqb, ne_eqb, cond-true, cond-false, cond_both}
 use Rattle.matching.specs.Market.{Board}
 use Rattle.matching.specs.Log.{Call, wish, press, sweep, settle, post, State, opened, accepted, done, after, line, within}
-use Rattle.matching.specs.Wishes.{AcceptedWish, LastWish, WishNow, OneWishNow}
+use Rattle.matching.specs.Wishes.{AcceptedWish, WishNow}
 
 module _ (bd : Board) where
   pub after_yes : (s : State) (c : Call) → accepted bd s c ≡ true → after bd s c ≡ done bd s c
@@ -100,15 +100,3 @@ module _ (bd : Board) (w : ℕ → List ℕ) (cs : List Call) (t : ℕ) where
     | inl x ↦ inl (record { index = x.0; accepts = x.2; none_later = λ j u k a. x.3 j u k a.made a })
     | inr y ↦ inr (record { none = λ j u a. y.0 j u a.made a; begun = y.1 })
   ]
-
-last_one : (bd : Board) (w : ℕ → List ℕ) (cs : List Call) (t : ℕ) (u v : List ℕ) → LastWish bd w cs t u → LastWish bd w cs t v → u ≡ v
-last_one bd w cs t u v a b = elim (cases_order a.index b.index) [
-  | inl e ↦ let p = a.accepts.call in let q = subst (λ (k : ℕ). get_or cs k post ≡ wish (t + 1) v) (sym e) b.accepts.call in cc
-  | inr o ↦ absurd (elim o [ inl h ↦ a.none_later b.index v h b.accepts | inr h ↦ b.none_later a.index u h a.accepts ])
-]
-
-pub one_wish_now_lem : OneWishNow
-one_wish_now_lem bd w cs t u v (inl a) (inl b) = last_one bd w cs t u v a b
-one_wish_now_lem bd w cs t u v (inl a) (inr b) = absurd (b.none a.index u a.accepts)
-one_wish_now_lem bd w cs t u v (inr a) (inl b) = absurd (a.none b.index v b.accepts)
-one_wish_now_lem bd w cs t u v (inr a) (inr b) = a.begun ∙ sym b.begun
