@@ -34,13 +34,6 @@ module _ (m : SheetsModel) (t : ℕ) (w : List ℕ) where
         by true h = (h, ap (λ p. p.1) (e ∙ cond-true test (true, after) (false, m) h))
         by false h = absurd (both_ways true (ap (λ (p : Bool × SheetsModel). p.0) (e ∙ cond-false test (true, after) (false, m) h)) refl)
 
-    pub said_no : ◌≡◌ {A = Bool × SheetsModel} (false, n) (rewished m t w) → (test ≡ false) × (n ≡ m)
-    said_no e = by test refl
-      where
-        by : (b : Bool) → test ≡ b → (test ≡ false) × (n ≡ m)
-        by false h = (h, ap (λ p. p.1) (e ∙ cond-false test (true, after) (false, m) h))
-        by true h = absurd (both_ways true (sym (ap (λ (p : Bool × SheetsModel). p.0) (e ∙ cond-true test (true, after) (false, m) h))) refl)
-
   pub teacher_in : test ≡ true → t < length m.teachers
   teacher_in h = ltb-true t (length m.teachers) (and_parts (ltb t (length m.teachers)) (wish_ok m.posts.schools w) h).0
 
@@ -77,11 +70,6 @@ module _ (m : SheetsModel) (t : ℕ) (w : List ℕ) where
     abbrev changed : Model
     changed = ((held m cuts).0, record { wishes = put (wishes_of m) t w; cuts = λ _. 1; posted = posted })
 
-    pub wished_no : test ≡ false → (n : SheetsModel) → n ≡ m → ◌≡◌ {A = Bool × Model} (false, held n cuts) (wished (held m cuts) t w)
-    wished_no h n e =
-        ap (λ x. (false, held x cuts)) e
-        ∙ sym (cond-false (ltb t (length (map unwished m.teachers)) && wish_ok m.posts.schools w) (true, changed) (false, held m cuts) (same_test ∙ h))
-
     held_after : test ≡ true → held after (λ _. 1) ≡ changed
     held_after h =
         ap₂ {C = Model} (λ (F : Fixed) (s : State). (F, s))
@@ -96,9 +84,6 @@ module _ (m : SheetsModel) (t : ℕ) (w : List ℕ) where
   -- ---- the pick lists
 
   module _ (h : test ≡ true) (few : length m.posts.lanes ≤ 80) (picks : List (BoundedList 80)) (picked : map listed picks ≡ picks_of m) where
-    pub picks_long : length picks ≡ length m.teachers
-    picks_long = sym (length-map picks listed) ∙ ap length picked ∙ length-map m.teachers (λ (r : TeacherRecord). pick_of m.posts (person r) r.wish)
-
     -- the record that was read after the change
     module _ (n : SheetsModel) (is : n ≡ after) (ts : List Teacher) (value : map teacher_record ts ≡ n.teachers) where
       pub after_in : t < length ts
