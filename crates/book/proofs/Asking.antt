@@ -18,9 +18,6 @@ use Rattle.book.specs.Model.{Model, unwished, fixed_from, tables_in, board_in, a
 -- ---- ranks
 
 module _ (table : List (List ℕ)) (lanes teachers l t : ℕ) where
-  pub rank_inside : l < lanes → t < teachers → entry_in table l t ≡ rank_in table lanes teachers l t
-  rank_inside a b = sym (cond-true (ltb l lanes && ltb t teachers) (entry_in table l t) 0 (ap₂ (λ x y. x && y) (lt-ltb l lanes a) (lt-ltb t teachers b)))
-
   pub rank_no_lane : lanes ≤ l → 0 ≡ rank_in table lanes teachers l t
   rank_no_lane a = sym (cond-false (ltb l lanes && ltb t teachers) (entry_in table l t) 0 (ap (λ x. x && ltb t teachers) (le-ltb l lanes a)))
 

@@ -1,12 +1,11 @@
 -- Changes of a book.
-use Rattle.std.proofs.Common.{◌≡◌, ℕ, ◌<◌, ◌≤◌, Bool, true, false, ◌&&◌, leb, List, [], ◌∷◌, map, length, get_or, take, replicate, sym, refl, ap, ◌∙◌, ap₂, ⊎_elim, arith}
+use Rattle.std.proofs.Common.{◌≡◌, ℕ, ◌<◌, ◌≤◌, Bool, true, ◌&&◌, leb, List, [], ◌∷◌, map, length, get_or, take, replicate, sym, refl, ap, ◌∙◌, ap₂, ⊎_elim, arith}
 use mathlib.Core.Path.{fun_ext}
 use lib.ListN.{length-replicate}
 use Rattle.std.proofs.lemmas.List.{get_or_past, get_or-replicate, take_all}
 use Rattle.std.proofs.lemmas.Bool.{cases_lt, and_parts, and_from}
 use Rattle.lines.specs.Entries.{within, distinct, further}
-use Rattle.matching.specs.Log.{opened}
-use Rattle.market.specs.Tables.{Person, person, pick_of, wishes_of}
+use Rattle.market.specs.Tables.{Person, person, pick_of}
 use Rattle.market.proofs.Short.{pick_lists_are_short_lem}
 use Rattle.sheets.specs.declared.records.Teacher.{Teacher}
 use Rattle.sheets.specs.Model.{SheetsModel, PostsModel, TeacherRecord, teacher_record}
@@ -14,7 +13,7 @@ use Rattle.sheets.specs.Ranges.{every, few_within, wish_ok, teacher_ok, staff_ok
 use Rattle.sheets.specs.Tables.{kept}
 use Rattle.sheets.proofs.ReadLaws.{lanes_few}
 use Rattle.sheets.proofs.WishLaws.{someone}
-use Rattle.book.specs.Model.{Model, fixed_from, picks_of}
+use Rattle.book.specs.Model.{picks_of}
 
 -- ---- pick lists
 
@@ -62,8 +61,3 @@ map_record f (t ∷ ts) = ap (λ l. f (teacher_record t) ∷ l) (map_record f ts
 
 pub ones : (n : ℕ) (cs : List ℕ) → cs ≡ replicate n 1 → ◌≡◌ {A = ℕ → ℕ} (λ l. get_or cs l 1) (λ _. 1)
 ones n cs e = fun_ext (λ l. ap (λ (xs : List ℕ). get_or xs l 1) e ∙ ⊎_elim (λ (a : l < n). get_or-replicate n l 1 1 a) (λ (b : n ≤ l). get_or_past (replicate n 1) l 1 (omega (arith, length-replicate {A = ℕ} n 1))) (cases_lt l n))
-
--- an opened book
-pub opened_is : (m : SheetsModel) (ranks : ℕ → ℕ → ℕ) (n : ℕ) (cs : List ℕ) → cs ≡ replicate n 1
-    → ◌≡◌ {A = Model} (fixed_from m ranks, record { wishes = wishes_of m; cuts = λ l. get_or cs l 1; posted = false }) (fixed_from m ranks, opened (wishes_of m))
-opened_is m ranks n cs e = ap (λ (c : ℕ → ℕ). (fixed_from m ranks, record { wishes = wishes_of m; cuts = c; posted = false })) (ones n cs e)

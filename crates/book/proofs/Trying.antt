@@ -1,12 +1,12 @@
 -- A trial puts a cutoff and takes it back: what it answers and leaves.
-use Rattle.std.proofs.Common.{◌≡◌, ℕ, suc, ◌<◌, ◌≤◌, true, false, List, length, get_or, set, Ok, Err, vec_items, Result, sym, ap, ◌∙◌, ap₂, arith}
+use Rattle.std.proofs.Common.{◌≡◌, ℕ, suc, ◌<◌, true, false, List, length, get_or, set, Ok, Err, vec_items, Result, sym, ap, ◌∙◌, ap₂}
 use Rattle.std.proofs.lemmas.List.{set-set, set-get_or}
-use Rattle.std.proofs.lemmas.Bool.{lt-ltb, le-ltb, eq-eqb, ne_eqb, cond-true, cond-false}
+use Rattle.std.proofs.lemmas.Bool.{lt-ltb, eq-eqb, ne_eqb, cond-true, cond-false}
 use Rattle.matching.specs.Log.{within}
 use Rattle.std.specs.Result.{IsErrAnd}
 use Rattle.book.specs.declared.book.Book.{Book}
 use Rattle.book.specs.declared.book.trial.TrialRefusal.{TrialRefusal}
-use Rattle.book.specs.declared.book.trial.TrialRefusal.TheVariants.{NoLane, BadCutoff, BadRow as BadRowTried}
+use Rattle.book.specs.declared.book.trial.TrialRefusal.TheVariants.{BadCutoff, BadRow as BadRowTried}
 use Rattle.book.specs.Askers.{asker_bytes, licensed_in, asking, tried, trying, trial_left}
 use Rattle.book.specs.Held.{book_model, fixed_of, state_of}
 use Rattle.book.specs.Model.{Model}
@@ -19,18 +19,12 @@ module _ (b : Book) (cs : List ℕ) (same : cs ≡ vec_items b.cutoffs) where
   pub cuts_back : ◌≡◌ {A = Model} (fixed_of b, record { wishes = (state_of b).wishes; cuts = λ l. get_or cs l 1; posted = b.posted }) (book_model b)
   cuts_back = ap (λ (xs : List ℕ). (fixed_of b, record { wishes = (state_of b).wishes; cuts = λ l. get_or xs l 1; posted = b.posted })) same
 
-  pub low_back : (l : ℕ) → get_or cs l 1 ≤ 202
-  low_back l = omega (arith, b.low l, ap (λ (xs : List ℕ). get_or xs l 1) same)
-
   -- an answer of the trial, with the cutoffs as they were
   pub left_back : (l c : ℕ) (bytes : List ℕ) (r : Result (Unit {0}) TrialRefusal × List ℕ) → r ≡ trying (book_model b) l c bytes
       → ◌≡◌ {A = (Result (Unit {0}) TrialRefusal × List ℕ) × Model} (r, (fixed_of b, record { wishes = (state_of b).wishes; cuts = λ k. get_or cs k 1; posted = b.posted })) (trial_left (book_model b) l c bytes)
   left_back l c bytes r e = ap₂ (λ (x : Result (Unit {0}) TrialRefusal × List ℕ) (y : Model). (x, y)) e cuts_back
 
 module _ (m : Model) (l c : ℕ) (bytes : List ℕ) where
-  pub trying_no_lane : length m.0.posts.lanes ≤ l → (Err NoLane, bytes) ≡ trying m l c bytes
-  trying_no_lane h = sym (cond-false _ _ _ (le-ltb l (length m.0.posts.lanes) h))
-
   pub trying_cutoff : l < length m.0.posts.lanes → within c (suc (licensed_in m l)) ≡ false → (Err BadCutoff, bytes) ≡ trying m l c bytes
   trying_cutoff h w = sym (cond-true _ _ _ (lt-ltb l (length m.0.posts.lanes) h) ∙ cond-false _ _ _ w)
 

@@ -114,9 +114,6 @@ module _ (m : SheetsModel) (t : ℕ) (w : List ℕ) where
   -- ---- the pick lists
 
   module _ (h : test ≡ true) (few : length m.posts.lanes ≤ 80) (picks : List (BoundedList 80)) (picked : map listed picks ≡ picks_of m) where
-    pub picks_long : length picks ≡ length m.teachers
-    picks_long = sym (length-map picks listed) ∙ ap length picked ∙ length-map m.teachers (λ (r : TeacherRecord). pick_of m.posts (person r) r.wish)
-
     -- the record that was read after the change
     module _ (n : SheetsModel) (is : n ≡ after) (ts : List Teacher) (value : map teacher_record ts ≡ n.teachers) where
       pub after_in : t < length ts

@@ -79,11 +79,12 @@ impl Book {
             .find(|l| self.clears(t, usize::from(*l)))
     }
 
-    // The offers of all teachers, in an array with room for the most teachers: no call allocates, and a generic list cannot hold a `[T; N]`.
+    // The offers of all teachers.
     pub fn offers(&self) -> [Option<u16>; 200]
         ensures long { length result ≡ 200 }
         ensures each { (t : ℕ) → slice_index_or result t None ≡ offer_in (book_model self.now) t }
     {
+        // An array for the most teachers: no call allocates, and a list that is generic in its items cannot hold an array of them.
         array::from_fn(|t| self.offer(t))
     }
 }
@@ -102,9 +103,10 @@ fn mark(offers: &[Option<u16>], t: usize, l: usize) -> u8
     u8::from(is_lane(offers.get(t).copied().flatten(), l))
 }
 
-// The row of a lane's askers among these offers, in an array as at `offers`.
+// The row of a lane's askers among these offers.
 pub fn asker_row(offers: &[Option<u16>], l: usize) -> [u8; 200]
     ensures { length offers.now ≤ 200 → (t : ℕ) → told result t ≡ holds (slice_index_or offers.now t None) l }
 {
+    // An array, as in `offers`.
     array::from_fn(|t| mark(offers, t, l))
 }

@@ -156,11 +156,12 @@ impl Book {
         }
     }
 
-    // The reach of all teachers, in an array as at `offers`.
+    // The reach of all teachers.
     fn reaches(&self, l: usize) -> [u16; 200]
         ensures long { length result ≡ 200 }
         ensures each { (t : ℕ) → slice_index result t ≡ reach_in (book_model self.now) l t }
     {
+        // An array, as in `Book::offers`.
         array::from_fn(|t| self.reach(l, t))
     }
 

@@ -32,20 +32,7 @@ impl Ranks {
             .copied()
             .unwrap_or(0)
     }
-}
 
-// The ranks of a lane's teachers, by their bands, the standing and their numbers; 0 for a teacher who is not licensed. An array as at `offers`.
-fn rank_row<S: Standing>(standing: &S, lane: u16, teachers: &[Teacher], subject: u16) -> [u16; 200]
-    requires { length teachers.now ≤ 200 }
-    ensures { (t : ℕ) → slice_index result t ≡ rank_by (S.Standing.ahead standing.now) lane (map (band_in subject) (map person (map teacher_record teachers.now))) t }
-{
-    let bands = bands_of(teachers, subject);
-    let mut row = [0u16; 200];
-    fill_ranks(standing, lane, &bands[..teachers.len()], &mut row);
-    row
-}
-
-impl Ranks {
     // Puts a row of ranks in the place of that of the lane.
     fn set_lane(&mut self, l: usize, row: [u16; 200])
         requires inside { l < 80 }
@@ -54,6 +41,18 @@ impl Ranks {
     {
         self.table[l] = row;
     }
+}
+
+// The ranks of a lane's teachers, by their bands, the standing and their numbers; 0 for a teacher who is not licensed.
+fn rank_row<S: Standing>(standing: &S, lane: u16, teachers: &[Teacher], subject: u16) -> [u16; 200]
+    requires { length teachers.now ≤ 200 }
+    ensures { (t : ℕ) → slice_index result t ≡ rank_by (S.Standing.ahead standing.now) lane (map (band_in subject) (map person (map teacher_record teachers.now))) t }
+{
+    let bands = bands_of(teachers, subject);
+    // An array, as in `Book::offers`.
+    let mut row = [0u16; 200];
+    fill_ranks(standing, lane, &bands[..teachers.len()], &mut row);
+    row
 }
 
 // Works out the ranks of every lane, by asking the standing.

@@ -8,14 +8,6 @@ use Rattle.book.proofs.Changes.{ones}
 use Rattle.book.proofs.Wishing.{said_yes, said_no, wished_yes, wished_no, picks_after}
 use Rattle.book.proofs.book.Book.rewish.Goals as goal
 
-pub returns-in_err-rewish : goal.returns-in_err-rewish
-returns-in_err-rewish c =
-    let m = model_of c.args.self.now.sheets in
-    let x = c.in_err-rewish.field-0.0 in
-    let n = model_of c.rewish.new.self in
-    let p = err_from_is_err_and c.from_residual.result c.from_residual.ensures.1 in
-    rw (p.1, p.2) (wished_no m c.args.t c.args.wishes.now (vec_items c.args.self.now.ranks.table) (λ l. get_or (vec_items c.args.self.now.cutoffs) l 1) c.args.self.now.posted x n c.in_err-rewish.ensures (said_no m c.args.t c.args.wishes.now x n c.in_err-rewish.ensures))
-
 pub invariant_of-self-2 : goal.invariant_of-self-2
 invariant_of-self-2 c =
     let b = c.args.self.now in
