@@ -23,17 +23,6 @@ judged a b y z = cond a (cond b (Ok tt, y) (Err BadWishes, z)) (Err NoTeacher, z
 no_ok : (x : WishRefusal) → ◌≡◌ {A = Result (Unit {0}) WishRefusal} (Ok tt) (Err x) → ⊥
 no_ok x e = grind arith
 
-stays : {C : Type 0} (a b : Bool) (y z : C) (x : WishRefusal) (n : C) → ◌≡◌ {A = Result (Unit {0}) WishRefusal × C} (Err x, n) (judged a b y z) → n ≡ z
-stays true true y z x n e = absurd (no_ok x (sym (ap (λ p. p.0) e)))
-stays true false y z x n e = ap (λ p. p.1) e
-stays false b y z x n e = ap (λ p. p.1) e
-
--- what is refused of one is refused of the other for the same
-refused_alike : {C D : Type 0} (a b : Bool) (y z : C) (u v : D) (x : WishRefusal) (n : C) → ◌≡◌ {A = Result (Unit {0}) WishRefusal × C} (Err x, n) (judged a b y z) → ◌≡◌ {A = Result (Unit {0}) WishRefusal × D} (Err x, v) (judged a b u v)
-refused_alike true true y z u v x n e = absurd (no_ok x (sym (ap (λ p. p.0) e)))
-refused_alike true false y z u v x n e = ap (λ r. (r, v)) (ap (λ p. p.0) e)
-refused_alike false b y z u v x n e = ap (λ r. (r, v)) (ap (λ p. p.0) e)
-
 module _ (m : SheetsModel) (t : ℕ) (w : List ℕ) where
   -- there is such a teacher, and the list is acceptable
   abbrev pub test : Bool
@@ -53,9 +42,6 @@ module _ (m : SheetsModel) (t : ℕ) (w : List ℕ) where
       by true true h k e = (and_from _ _ h k, ap (λ p. p.1) e)
       by true false h k e = absurd (no_ok BadWishes (ap (λ p. p.0) e))
       by false b h k e = absurd (no_ok NoTeacher (ap (λ p. p.0) e))
-
-  pub said_no : (x : WishRefusal) (n : SheetsModel) → ◌≡◌ {A = Result (Unit {0}) WishRefusal × SheetsModel} (Err x, n) (rewished m t w) → n ≡ m
-  said_no x n e = stays (ltb t (length m.teachers)) (wish_ok m.posts.schools w) after m x n e
 
   pub teacher_in : test ≡ true → t < length m.teachers
   teacher_in h = ltb-true t (length m.teachers) (and_parts (ltb t (length m.teachers)) (wish_ok m.posts.schools w) h).0
@@ -92,12 +78,6 @@ module _ (m : SheetsModel) (t : ℕ) (w : List ℕ) where
 
     judged_wished : wished (held m cuts) t w ≡ judged (ltb t (length m.teachers)) (wish_ok m.posts.schools w) changed (held m cuts)
     judged_wished = ap (λ k. judged (ltb t k) (wish_ok m.posts.schools w) changed (held m cuts)) (length-map m.teachers unwished)
-
-    pub wished_no : (x : WishRefusal) (n : SheetsModel) → ◌≡◌ {A = Result (Unit {0}) WishRefusal × SheetsModel} (Err x, n) (rewished m t w) → n ≡ m → ◌≡◌ {A = Result (Unit {0}) WishRefusal × Model} (Err x, held n cuts) (wished (held m cuts) t w)
-    wished_no x n s e =
-        ap (λ y. (Err x, held y cuts)) e
-        ∙ refused_alike (ltb t (length m.teachers)) (wish_ok m.posts.schools w) after m changed (held m cuts) x n s
-        ∙ sym judged_wished
 
     held_after : test ≡ true → held after (λ _. 1) ≡ changed
     held_after h =

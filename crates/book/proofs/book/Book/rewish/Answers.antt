@@ -1,11 +1,10 @@
 use Rattle.std.proofs.Common.{ℕ, ◌≤◌, length, get_or, vec_items, ap, arith}
 use lib.ListN.{length-replicate}
 use Rattle.std.proofs.lemmas.List.{length-map}
-use Rattle.std.proofs.lemmas.Result.{err_from_is_err_and}
 use Rattle.sheets.specs.Held.{model_of}
 use Rattle.sheets.specs.Model.{lane_record}
 use Rattle.book.proofs.Changes.{ones}
-use Rattle.book.proofs.Wishing.{said_yes, said_no, wished_yes, wished_no, picks_after}
+use Rattle.book.proofs.Wishing.{said_yes, wished_yes, picks_after}
 use Rattle.book.proofs.book.Book.rewish.Goals as goal
 
 pub invariant_of-self-2 : goal.invariant_of-self-2
