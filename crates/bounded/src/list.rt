@@ -4,7 +4,8 @@ ghost use Rattle.std.specs.Prelude.{◌≡◌, ◌≤◌, length};
 use std::error::Error;
 use std::fmt;
 
-// The first `len` places of `items` are the list; the rest is spare.
+// The first `len` places of `items` are the list; the rest is spare. It stays an array with a length: a `Vec` would want memory while sheets are read, and
+// the kit's `ArrayVec` cannot be copied, as lanes, teachers, points and purses are.
 #[derive(Clone, Copy)]
 pub struct BoundedList<const N: usize> {
     items: [u16; N],

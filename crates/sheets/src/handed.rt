@@ -28,7 +28,7 @@ fn first_line(s: &[u8]) -> &[u8]
 }
 
 // The line at the place, as a part of the sheet in which it stands: from the place to before the next byte 10 or the end. A place past the
-// end gives the empty part at the end, and a sheet number other than 2 means posts.
+// end gives the empty part at the end, and a sheet number other than 2 means posts: it stays a number, since each has an answer.
 pub fn line_text<'a>(posts: &'a [u8], staff: &'a [u8], sheet: u8, place: usize) -> &'a [u8]
     ensures { result.now ≡ text_at (chosen_of sheet posts.now staff.now) place }
 {

@@ -21,6 +21,7 @@ fn posts_spot(line: usize, place: usize) -> Spot
     }
 }
 
+// Has the lane this school and subject? No derived equality says it: two lanes may differ in size and list.
 fn same_pair(l: &Lane, school: u16, subject: u16) -> bool
     ensures { result ≡ (l.now.school == school && l.now.subject == subject) }
 {

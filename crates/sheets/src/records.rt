@@ -17,7 +17,7 @@ pub struct Lane {
     pub list: BoundedList<20>,
 }
 
-// Home is the school of the present post, or 0, as the sheet has it.
+// Home is the school of the present post, or 0: no Option, since the sheet has it so, and each reader and writer would turn it there and back.
 #[derive(Clone, Copy)]
 pub struct Teacher {
     pub home: u16,

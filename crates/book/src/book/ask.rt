@@ -40,7 +40,7 @@ impl Book {
         self.cutoffs.get(l).copied().unwrap_or(1)
     }
 
-    // The rank of the teacher in the lane, both by their index; 0 for one who is not licensed.
+    // The rank of the teacher in the lane, both by their index; 0 for one who is not licensed, and no Option, since the table of ranks has it so.
     pub fn rank(&self, l: usize, t: usize) -> u16
         ensures { result ≡ (fixed_of self.now).ranks l t }
     {

@@ -62,7 +62,8 @@ impl Sheets {
     }
 
     // Reads both sheets in the place of what was here. The first fault is the answer, and nothing is here then. What is read is what the two
-    // sheets describe; and where they are refused, they describe nothing.
+    // sheets describe; and where they are refused, they describe nothing. The sheets stay two parameters, here and wherever they are handed on: in
+    // a struct that borrows them each clause would say `pair.entry.posts.now` for `posts.now`.
     pub fn read(&mut self, posts: &[u8], staff: &[u8]) -> Result<(), Fault>
         ensures value { (result, model_of self.new) ≡ reading (sheets_of posts.now staff.now) }
         ensures described { MatchResult result (λ _. Describes posts.now staff.now (model_of self.new)) (λ _. Undescribed posts.now staff.now) }
