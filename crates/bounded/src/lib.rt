@@ -2,5 +2,7 @@
 #![tactic(auto)]
 
 mod list;
+mod table;
 
 pub use list::{BoundedList, Full};
+pub use table::Table;
