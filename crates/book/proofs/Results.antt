@@ -29,15 +29,15 @@ module _ (b : Book) where
   bd = board_in anyone (book_model b).0
 
   pub few_lanes : length (model_of b.sheets).posts.lanes ≤ 80
-  few_lanes = omega (arith, length-map (vec_items b.sheets.lanes) lane_record, b.sheets.few.0, b.sheets.lanes.ok.0)
+  few_lanes = omega (arith, length-map (vec_items b.sheets.lanes.items) lane_record, b.sheets.lanes.within)
 
   pub few_teachers : length (model_of b.sheets).teachers ≤ 200
-  few_teachers = omega (arith, length-map (vec_items b.sheets.teachers) teacher_record, b.sheets.few.1, b.sheets.teachers.ok.0)
+  few_teachers = omega (arith, length-map (vec_items b.sheets.teachers.items) teacher_record, b.sheets.teachers.within)
 
-  pub picks_len : length (vec_items b.picks) ≡ length (model_of b.sheets).teachers
+  pub picks_len : length (vec_items b.picks.items) ≡ length (model_of b.sheets).teachers
   picks_len =
       let m = model_of b.sheets in
-      sym (length-map (vec_items b.picks) listed) ∙ ap length b.picked ∙ length-map m.teachers (λ (y : TeacherRecord). pick_of m.posts (person y) y.wish)
+      sym (length-map (vec_items b.picks.items) listed) ∙ ap length b.picked ∙ length-map m.teachers (λ (y : TeacherRecord). pick_of m.posts (person y) y.wish)
 
   pub offer_inside : (t l : ℕ) → offer_in (book_model b) t ≡ Some l → l < length (model_of b.sheets).posts.lanes
   unfolding offer
@@ -114,8 +114,8 @@ count_listed p n = length-filter p (range_with_len 0 n) ∙ count_below p n
 
 -- ---- the whole sheet
 
-pub cuts_kept : (b : Book) → vec_items b.cutoffs ≡ cuts (book_model b)
-cuts_kept b = row_whole (vec_items b.cutoffs) 1 (length (model_of b.sheets).posts.lanes) (omega (arith, b.sized, b.cutoffs.ok.0))
+pub cuts_kept : (b : Book) → vec_items b.cutoffs.items ≡ cuts (book_model b)
+cuts_kept b = row_whole (vec_items b.cutoffs.items) 1 (length (model_of b.sheets).posts.lanes) (omega (arith, b.sized))
 
 pub sheet_is : (m : Model) (r : ℕ) (cs ss : List ℕ) → m.0.posts.schools ≢ 0 → r ≡ raises m → cs ≡ cuts m → ss ≡ seats m → result_bytes r cs ss ≡ result_sheet m
 sheet_is m r cs ss n a b c =

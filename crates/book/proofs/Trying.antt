@@ -12,10 +12,14 @@ use Rattle.book.specs.Held.{book_model, fixed_of, state_of}
 use Rattle.book.specs.Model.{Model}
 
 -- a number, and then the old one back
-pub restored : (xs : List ℕ) (i v o : ℕ) → o ≡ get_or xs i o → set (set xs i v) i o ≡ xs
-restored xs i v o r = set-set xs i v o ∙ ap (set xs i) r ∙ set-get_or xs i o
+pub restored : (xs ys old : List ℕ) (i v : ℕ) → ys ≡ set xs i v → old ≡ xs → set ys i (get_or old i 0) ≡ xs
+restored xs ys old i v p q =
+    ap (λ (zs : List ℕ). set zs i (get_or old i 0)) p
+    ∙ set-set xs i v (get_or old i 0)
+    ∙ ap (λ (zs : List ℕ). set xs i (get_or zs i 0)) q
+    ∙ set-get_or xs i 0
 
-module _ (b : Book) (cs : List ℕ) (same : cs ≡ vec_items b.cutoffs) where
+module _ (b : Book) (cs : List ℕ) (same : cs ≡ vec_items b.cutoffs.items) where
   pub cuts_back : ◌≡◌ {A = Model} (fixed_of b, record { wishes = (state_of b).wishes; cuts = λ l. get_or cs l 1; posted = b.posted }) (book_model b)
   cuts_back = ap (λ (xs : List ℕ). (fixed_of b, record { wishes = (state_of b).wishes; cuts = λ l. get_or xs l 1; posted = b.posted })) same
 

@@ -12,7 +12,7 @@ fixed_of b =
     fixed_from m (rank_in (vec_items b.ranks.table) (length m.posts.lanes) (length m.teachers))
 
 abbrev pub state_of : Book → State
-state_of b = record { wishes = wishes_of (model_of b.sheets); cuts = λ l. slice_index_or (vec_items b.cutoffs) l 1; posted = b.posted }
+state_of b = record { wishes = wishes_of (model_of b.sheets); cuts = λ l. slice_index_or (vec_items b.cutoffs.items) l 1; posted = b.posted }
 
 abbrev pub book_model : Book → Model
 book_model b = (fixed_of b, state_of b)

@@ -1,5 +1,5 @@
 -- What a push was told by its answer.
-use Rattle.std.proofs.Common.{◌≡◌, ℕ, ◌<◌, ◌≤◌, List, [], ◌∷◌, ◌++◌, length, Some, None, Result, arith}
+use Rattle.std.proofs.Common.{◌≡◌, ℕ, ◌≤◌, List, [], ◌∷◌, ◌++◌, length, Some, None, Result, arith}
 use Rattle.std.specs.Result.{result_ok}
 use Rattle.bounded.specs.declared.list.Full.{Full}
 use Rattle.bounded.specs.Listed.{pushed}

@@ -11,7 +11,7 @@ abbrev pub points_held : Points → PointsView
 points_held p = record { lanes = p.lanes; points = listed p.points }
 
 abbrev pub lists_held : Lists → ListsView
-lists_held l = record { teachers = l.teachers; lists = map listed (vec_items l.lists) }
+lists_held l = record { teachers = l.teachers; lists = map listed (vec_items l.lists.items) }
 
 abbrev pub seats_held : Seats → List ℕ
 seats_held s = listed s.sizes

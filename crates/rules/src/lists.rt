@@ -1,14 +1,14 @@
 // The standing by list: who is named earlier on the lane's list is ahead.
-ghost use Rattle.std.specs.Prelude.{◌≤◌, vec_capacity};
+use bounded::{BoundedList, Table};
 
-use bounded::BoundedList;
+// The lists of a sheet's lanes, with room for as many as it may have.
+pub(crate) type LaneLists = Table<BoundedList<20>, 80>;
 
-// How many teachers there are, and the list of each lane, with room for every lane of a sheet.
+// How many teachers there are, and the list of each lane.
 #[derive(Drop)]
 pub struct Lists {
     teachers: u16,
-    lists: Vec<BoundedList<20>>,
-    ghost room: { 80 ≤ vec_capacity lists },
+    lists: LaneLists,
 }
 
 pub mod calls;

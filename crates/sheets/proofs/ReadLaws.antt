@@ -1,19 +1,18 @@
 -- What holds after a reading.
 use Rattle.std.proofs.Common.{◌≡◌, ℕ, ◌≤◌, Bool, true, false, ◌||◌, leb, List, [], length, Ok, Err, Result, sym, refl, ap, ◌∙◌, ap₂, arith}
-use Rattle.std.proofs.lemmas.List.{length-map}
 use Rattle.std.proofs.lemmas.Bool.{and_parts, leb-true}
 use Rattle.lines.specs.declared.faults.Fault.{Fault}
 use Rattle.lines.specs.Entries.{within}
 use Rattle.sheets.specs.declared.records.Lane.{Lane}
 use Rattle.sheets.specs.declared.records.Teacher.{Teacher}
 use Rattle.sheets.specs.Described.{Describes, Undescribed}
-use Rattle.sheets.specs.Model.{SheetsModel, lane_record, teacher_record}
+use Rattle.sheets.specs.Model.{SheetsModel}
 use Rattle.sheets.specs.Ranges.{in_range, is_blank, posts_ok, staff_ok}
 use Rattle.sheets.specs.Read.{sheets_of, reading}
 use Rattle.sheets.specs.Tables.{tables_model, kept}
 use Rattle.sheets.proofs.Canonical.{canonical}
 
--- how many lanes and teachers there can be
+-- how many lanes there can be
 pub lanes_few : (m : SheetsModel) → in_range m ≡ true → length m.posts.lanes ≤ 80
 lanes_few m h =
     let p = (and_parts (posts_ok m.posts) (staff_ok m.posts.schools m.posts.subjects m.teachers) h).0 in
@@ -21,12 +20,6 @@ lanes_few m h =
     let r = (and_parts (within 1 10 m.posts.subjects) _ q).1 in
     let s = (and_parts (within 1 80 (length m.posts.lanes)) _ r).0 in
     leb-true (length m.posts.lanes) 80 (and_parts (leb 1 (length m.posts.lanes)) (leb (length m.posts.lanes) 80) s).1
-
-pub teachers_few : (m : SheetsModel) → in_range m ≡ true → length m.teachers ≤ 200
-teachers_few m h =
-    let p = (and_parts (posts_ok m.posts) (staff_ok m.posts.schools m.posts.subjects m.teachers) h).1 in
-    let s = (and_parts (within 1 200 (length m.teachers)) _ p).0 in
-    leb-true (length m.teachers) 200 (and_parts (leb 1 (length m.teachers)) (leb (length m.teachers) 200) s).1
 
 kept_in_range : (m : SheetsModel) → in_range m ≡ true → kept m ≡ true
 kept_in_range m h = by (is_blank m) (in_range m) h
@@ -42,12 +35,6 @@ module _ (posts staff : List ℕ) (schools subjects : ℕ) (ls : List Lane) (ts 
 
   pub read_kept : kept (tables_model schools subjects ls ts) ≡ true
   read_kept = kept_in_range (tables_model schools subjects ls ts) read_describes.ranges
-
-  pub read_lanes : length ls ≤ 80
-  read_lanes = omega (arith, lanes_few (tables_model schools subjects ls ts) read_describes.ranges, length-map ls lane_record)
-
-  pub read_teachers : length ts ≤ 200
-  read_teachers = omega (arith, teachers_few (tables_model schools subjects ls ts) read_describes.ranges, length-map ts teacher_record)
 
 -- the sheets were refused
 module _ (posts staff : List ℕ) (f : Fault) (e : Err f ≡ sheets_of posts staff) where

@@ -5,4 +5,4 @@ use Rattle.sheets.specs.Model.{SheetsModel}
 use Rattle.sheets.specs.Tables.{tables_model}
 
 abbrev pub model_of : Sheets → SheetsModel
-model_of s = tables_model s.schools s.subjects (vec_items s.lanes) (vec_items s.teachers)
+model_of s = tables_model s.schools s.subjects (vec_items s.lanes.items) (vec_items s.teachers.items)

@@ -1,12 +1,12 @@
 // The posts sheet, read into a table that has room for it.
-ghost use Rattle.std.specs.Prelude.{◌≡◌, ◌^◌, ◌<◌, ◌≤◌, ◌&&◌, [], map, vec_capacity, ◌==◌};
+ghost use Rattle.std.specs.Prelude.{◌≡◌, ◌^◌, ◌<◌, ◌≤◌, ◌&&◌, map, ◌==◌};
 ghost use Rattle.bounded.specs.Listed.{listed};
 ghost use Rattle.lines.specs.Faults.{seen};
 ghost use Rattle.sheets.specs.Model.{lane_record};
 ghost use Rattle.sheets.specs.Tables.{posts_model};
 ghost use Rattle.sheets.specs.Posts.{posts_spot, taken as taken_of, lane_within, lane_line, lane as lane_of, lanes as lanes_of, posts_of};
 
-use super::records::{Counts, Lane};
+use super::records::{Counts, Lane, Lanes};
 use bounded::BoundedList;
 use lines::{Fault, FaultKind, Key, Sheet, Spot, field, number_at, single, unrepeated};
 
@@ -87,34 +87,32 @@ fn read_lane(
     Ok((lane, place))
 }
 
-// The lanes, into the empty table, and the place behind them. Unlike a teacher, a lane is read in sight of those before it.
+// The lanes, in the place of those in the table, and the place behind them. Unlike a teacher, a lane is read in sight of those before it.
 fn fill_lanes(
-    all: &mut Vec<Lane>,
+    all: &mut Lanes,
     bytes: &[u8],
     counts: Counts,
     count: u16,
     start: usize,
 ) -> Result<usize, Fault>
-    requires { (all.old.items ≡ []) × (count ≤ vec_capacity all.old) }
-    ensures value { seen (λ p. (map lane_record all.new.items, p)) result ≡ lanes_of count counts.schools counts.subjects bytes.now start }
-    ensures capacity { vec_capacity all.new ≡ vec_capacity all.old }
+    requires { count ≤ 80 }
+    ensures { seen (λ p. (map lane_record all.new.items.items, p)) result ≡ lanes_of count counts.schools counts.subjects bytes.now start }
 {
+    all.clear();
     let mut place = start;
     let mut line = 4;
     for _i in 0..count {
         let (lane, next) = read_lane(bytes, counts, all.as_slice(), line, place)?;
-        all.push_reserved(lane);
+        all.push(lane);
         place = next;
         line += 2;
     }
     Ok(place)
 }
 
-// The posts sheet: the lanes into the empty table, and how many schools and subjects there are.
-pub(crate) fn read_posts(all: &mut Vec<Lane>, bytes: &[u8]) -> Result<Counts, Fault>
-    requires { (all.old.items ≡ []) × (80 ≤ vec_capacity all.old) }
-    ensures value { seen (λ p. posts_model p.schools p.subjects all.new.items) result ≡ posts_of bytes.now }
-    ensures capacity { vec_capacity all.new ≡ vec_capacity all.old }
+// The posts sheet: the lanes into the table, and how many schools and subjects there are.
+pub(crate) fn read_posts(all: &mut Lanes, bytes: &[u8]) -> Result<Counts, Fault>
+    ensures { seen (λ p. posts_model p.schools p.subjects all.new.items.items) result ≡ posts_of bytes.now }
 {
     if bytes.len() > 30000 {
         return Err(posts_spot(0, 0).fault(FaultKind::TooLong));

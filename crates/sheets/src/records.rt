@@ -1,5 +1,5 @@
 // What the sheets tell: counts, a lane and a teacher.
-use bounded::BoundedList;
+use bounded::{BoundedList, Table};
 
 // How many schools and how many subjects a round has.
 #[derive(Clone, Copy)]
@@ -27,3 +27,9 @@ pub struct Teacher {
     pub points: u16,
     pub cost: u16,
 }
+
+// The lanes of a posts sheet, with room for as many as it may have.
+pub(crate) type Lanes = Table<Lane, 80>;
+
+// The teachers of a staff sheet, with room for as many as it may have.
+pub(crate) type Teachers = Table<Teacher, 200>;

@@ -1,10 +1,10 @@
 // The staff sheet, read into a table that has room for it.
-ghost use Rattle.std.specs.Prelude.{◌≡◌, ◌^◌, ◌<◌, ◌≤◌, [], map, vec_capacity};
+ghost use Rattle.std.specs.Prelude.{◌≡◌, ◌^◌, ◌<◌, ◌≤◌, map};
 ghost use Rattle.lines.specs.Faults.{seen};
 ghost use Rattle.sheets.specs.Model.{teacher_record};
 ghost use Rattle.sheets.specs.Staff.{staff_spot, teacher as teacher_of, teachers as teachers_of, staff_of};
 
-use super::records::{Counts, Teacher};
+use super::records::{Counts, Teacher, Teachers};
 use lines::{Fault, FaultKind, Key, Sheet, Spot, licences, single, unrepeated};
 
 // Line `line` of the staff sheet, which begins at the place.
@@ -47,34 +47,32 @@ fn read_teacher(
     Ok((teacher, place))
 }
 
-// The teachers, into the empty table, and the place behind them.
+// The teachers, in the place of those in the table, and the place behind them.
 fn fill_teachers(
-    all: &mut Vec<Teacher>,
+    all: &mut Teachers,
     bytes: &[u8],
     counts: Counts,
     count: u16,
     start: usize,
 ) -> Result<usize, Fault>
-    requires { (all.old.items ≡ []) × (count ≤ vec_capacity all.old) }
-    ensures value { seen (λ p. (map teacher_record all.new.items, p)) result ≡ teachers_of count counts.schools counts.subjects bytes.now 2 start }
-    ensures capacity { vec_capacity all.new ≡ vec_capacity all.old }
+    requires { count ≤ 200 }
+    ensures { seen (λ p. (map teacher_record all.new.items.items, p)) result ≡ teachers_of count counts.schools counts.subjects bytes.now 2 start }
 {
+    all.clear();
     let mut place = start;
     let mut line = 2;
     for _i in 0..count {
         let (teacher, next) = read_teacher(bytes, counts, line, place)?;
-        all.push_reserved(teacher);
+        all.push(teacher);
         place = next;
         line += 6;
     }
     Ok(place)
 }
 
-// The staff sheet, into the empty table.
-pub(crate) fn read_staff(all: &mut Vec<Teacher>, bytes: &[u8], counts: Counts) -> Result<(), Fault>
-    requires { (all.old.items ≡ []) × (200 ≤ vec_capacity all.old) }
-    ensures value { seen (λ _. map teacher_record all.new.items) result ≡ staff_of counts.schools counts.subjects bytes.now }
-    ensures capacity { vec_capacity all.new ≡ vec_capacity all.old }
+// The staff sheet, into the table.
+pub(crate) fn read_staff(all: &mut Teachers, bytes: &[u8], counts: Counts) -> Result<(), Fault>
+    ensures { seen (λ _. map teacher_record all.new.items.items) result ≡ staff_of counts.schools counts.subjects bytes.now }
 {
     if bytes.len() > 30000 {
         return Err(staff_spot(0, 0).fault(FaultKind::TooLong));

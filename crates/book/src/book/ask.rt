@@ -37,7 +37,7 @@ impl Book {
     pub fn cutoff(&self, l: usize) -> u16
         ensures { result ≡ (state_of self.now).cuts l }
     {
-        self.cutoffs.get(l).copied().unwrap_or(1)
+        self.cutoffs.as_slice().get(l).copied().unwrap_or(1)
     }
 
     // The rank of the teacher in the lane, both by their index; 0 for one who is not licensed, and no Option, since the table of ranks has it so.
@@ -63,7 +63,7 @@ impl Book {
     pub(super) fn pick_list(&self, t: usize) -> &[u16]
         ensures { result.now ≡ pick_list_in (book_model self.now) t }
     {
-        match self.picks.get(t) {
+        match self.picks.as_slice().get(t) {
             Some(list) => list.as_slice(),
             None => &[],
         }

@@ -1,5 +1,5 @@
 // How a book is had and changed.
-ghost use Rattle.std.specs.Prelude.{◌≡◌, ◌≤◌, map, length, replicate, IfOk, vec_capacity};
+ghost use Rattle.std.specs.Prelude.{◌≡◌, ◌≤◌, map, length, replicate, IfOk};
 ghost use Rattle.bounded.specs.Listed.{listed};
 ghost use Rattle.matching.specs.Log.{opened};
 ghost use Rattle.market.specs.Tables.{wishes_of};
@@ -7,37 +7,34 @@ ghost use Rattle.sheets.specs.Held.{model_of};
 ghost use Rattle.book.specs.Held.{book_model};
 ghost use Rattle.book.specs.Model.{unopened, fixed_from, rank_in, picks_of, opening, lifted, wished, closed};
 
-use super::Book;
+use super::{Book, Cutoffs, PickLists};
 use crate::ranks::Ranks;
 use crate::ranks::fill::rank_all;
-use bounded::BoundedList;
+use bounded::Table;
 use market::pick_list;
 use matching::policy::Standing;
 use sheets::{Sheets, WishRefusal};
 use std::alloc::{AllocError, Global};
 
 // The pick lists that the sheets' wishes give, in the place of those that were there.
-fn fill_picks(picks: &mut Vec<BoundedList<80>>, sheets: &Sheets)
-    requires { 200 ≤ vec_capacity picks.old }
-    ensures value { map listed picks.new.items ≡ picks_of (model_of sheets.now) }
-    ensures capacity { vec_capacity picks.new ≡ vec_capacity picks.old }
+fn fill_picks(picks: &mut PickLists, sheets: &Sheets)
+    ensures { map listed picks.new.items.items ≡ picks_of (model_of sheets.now) }
 {
     picks.clear();
     for record in sheets.teachers() {
         let list = pick_list(sheets, record, record.wish.as_slice());
-        picks.push_reserved(list);
+        picks.push(list);
     }
 }
 
 // So many cutoffs, all 1.
-fn fill_ones(cutoffs: &mut Vec<u16>, n: usize)
-    requires { n ≤ vec_capacity cutoffs.old }
-    ensures value { cutoffs.new.items ≡ replicate n 1 }
-    ensures capacity { vec_capacity cutoffs.new ≡ vec_capacity cutoffs.old }
+fn fill_ones(cutoffs: &mut Cutoffs, n: usize)
+    requires { n ≤ 80 }
+    ensures { cutoffs.new.items.items ≡ replicate n 1 }
 {
     cutoffs.clear();
     for _l in 0..n {
-        cutoffs.push_reserved(1);
+        cutoffs.push(1);
     }
 }
 
@@ -48,8 +45,8 @@ impl Book {
     {
         let sheets = Sheets::reserve(heap)?;
         let ranks = Ranks::reserve(heap)?;
-        let picks = Vec::with_capacity(heap, 200)?;
-        let cutoffs = Vec::with_capacity(heap, 80)?;
+        let picks = Table::reserve(heap)?;
+        let cutoffs = Table::reserve(heap)?;
         Ok(Book {
             sheets,
             ranks,
@@ -84,8 +81,9 @@ impl Book {
     pub fn raise(&mut self, l: usize)
         ensures { book_model self.new ≡ lifted (book_model self.old) l }
     {
-        if let Some(cutoff) = self.cutoffs.get_mut(l) {
-            *cutoff = (*cutoff + 1).min(202);
+        if let Some(cutoff) = self.cutoffs.as_slice().get(l) {
+            let raised = (*cutoff + 1).min(202);
+            self.cutoffs.set(l, raised);
         }
     }
 
@@ -113,7 +111,7 @@ impl Book {
         self.sheets.rewish(t, wishes)?;
         let record = &self.sheets.teachers()[t];
         let list = pick_list(&self.sheets, record, wishes);
-        self.picks[t] = list;
+        self.picks.set(t, list);
         fill_ones(&mut self.cutoffs, self.sheets.lanes().len());
         Ok(())
     }

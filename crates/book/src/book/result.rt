@@ -56,6 +56,7 @@ impl Book {
         ensures { result ≡ raises_of (book_model self.now) }
     {
         self.cutoffs
+            .as_slice()
             .iter()
             .map(|cutoff| cutoff.saturating_sub(1))
             .sum()

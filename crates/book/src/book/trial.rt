@@ -1,5 +1,5 @@
 // The askers of a lane, at its cutoff or at one that is tried.
-ghost use Rattle.std.specs.Prelude.{◌≡◌, ℕ, suc, ◌<◌, ◌≤◌, ◌↔◌, IsOk, length, vec_len, vec_capacity, slice_index, slice_set};
+ghost use Rattle.std.specs.Prelude.{◌≡◌, ℕ, suc, ◌<◌, ◌≤◌, ◌↔◌, IsOk, length, slice_index, slice_set};
 ghost use Rattle.matching.specs.Count.{bit};
 ghost use Rattle.matching.specs.Log.{within};
 ghost use Rattle.book.specs.Askers.{licensed_in, asking, trial_left};
@@ -8,8 +8,8 @@ ghost use Rattle.book.specs.Held.{book_model};
 ghost use Rattle.book.specs.Reach.{stops_at, comes_to, reach_in, reaches as reaches_at};
 ghost use Rattle.book.specs.Result.{row as row_of};
 
-use super::Book;
 use super::ask::is_lane;
+use super::{Book, Cutoffs};
 use std::error::Error;
 use std::{array, fmt};
 
@@ -61,20 +61,19 @@ impl From<BadRow> for TrialRefusal {
 
 // The list of cutoffs with one of them at a number that is tried. When it ends, the old number stands there again.
 pub struct Tried<'a> {
-    cutoffs: &'a mut Vec<u16>,
+    cutoffs: &'a mut Cutoffs,
     at: usize,
     old: u16,
 }
 
 impl Drop for Tried<'_> {
     fn drop(self)
-        ensures value { self.exit.0.now.items ≡ slice_set self.entry.cutoffs.now.items self.entry.at self.entry.old }
-        ensures capacity { vec_capacity self.exit.0.now ≡ vec_capacity self.entry.cutoffs.now }
+        ensures { self.exit.0.now.items.items ≡ slice_set self.entry.cutoffs.now.items.items self.entry.at self.entry.old }
     {
         let at = self.at;
         let old = self.old;
         if at < self.cutoffs.len() {
-            self.cutoffs[at] = old;
+            self.cutoffs.set(at, old);
         }
         let Tried {
             cutoffs: _,
@@ -87,10 +86,10 @@ impl Drop for Tried<'_> {
 impl Tried<'_> {
     // The number that is tried.
     fn cutoff(&self) -> u16
-        requires { self.now.at < vec_len self.now.cutoffs.now }
-        ensures { result ≡ slice_index self.entry.now.cutoffs.now.items self.entry.now.at }
+        requires { self.now.at < length self.now.cutoffs.now.items.items }
+        ensures { result ≡ slice_index self.entry.now.cutoffs.now.items.items self.entry.now.at }
     {
-        self.cutoffs[self.at]
+        self.cutoffs.as_slice()[self.at]
     }
 }
 
@@ -195,8 +194,8 @@ impl Book {
         let reaches = self.reaches(l);
         let licensed = self.licensed(l);
         let teachers = self.teacher_count();
-        let old = self.cutoffs[l];
-        self.cutoffs[l] = tried;
+        let old = self.cutoffs.as_slice()[l];
+        self.cutoffs.set(l, tried);
         let guard = Tried {
             cutoffs: &mut self.cutoffs,
             at: l,

@@ -1,5 +1,5 @@
 // The calls of the standing by list.
-ghost use Rattle.std.specs.Prelude.{◌≡◌, ◌≤◌, [], map, length, IfOk, vec_capacity};
+ghost use Rattle.std.specs.Prelude.{◌≡◌, ◌≤◌, [], map, length, IfOk};
 ghost use Rattle.bounded.specs.Listed.{listed};
 ghost use Rattle.matching.specs.Picks.{place_of};
 ghost use Rattle.sheets.specs.Held.{model_of};
@@ -13,22 +13,22 @@ ghost use Rattle.std.proofs.Common.{rules, arith};
 
 use super::super::columns::ask;
 use super::super::rows::numbered;
-use super::Lists;
-use bounded::BoundedList;
+use super::{LaneLists, Lists};
+use bounded::{BoundedList, Table};
 use lines::Fault;
 use matching::numbers::is_within;
 use matching::policy::Standing;
 use sheets::{Lane, Sheets};
 use std::alloc::{AllocError, Global};
 
-// The lists of these lanes, into the empty table.
-fn copy_lists(lists: &mut Vec<BoundedList<20>>, lanes: &[Lane])
-    requires { (lists.old.items ≡ []) × (length lanes.now ≤ vec_capacity lists.old) }
-    ensures value { map listed lists.new.items ≡ map (λ l. l.list) (map lane_record lanes.now) }
-    ensures capacity { vec_capacity lists.new ≡ vec_capacity lists.old }
+// The lists of these lanes, in the place of those in the table.
+fn copy_lists(lists: &mut LaneLists, lanes: &[Lane])
+    requires { length lanes.now ≤ 80 }
+    ensures { map listed lists.new.items.items ≡ map (λ l. l.list) (map lane_record lanes.now) }
 {
+    lists.clear();
     for lane in lanes {
-        lists.push_reserved(lane.list);
+        lists.push(lane.list);
     }
 }
 
@@ -53,7 +53,7 @@ impl Lists {
     pub fn reserve(heap: Global) -> Result<Lists, AllocError>
         ensures { IfOk result (λ l. lists_held l ≡ record { teachers = 0; lists = [] }) }
     {
-        let lists = Vec::with_capacity(heap, 80)?;
+        let lists = Table::reserve(heap)?;
         Ok(Lists { teachers: 0, lists })
     }
 
@@ -62,7 +62,6 @@ impl Lists {
         ensures { lists_held self.new ≡ lists_view (model_of desk.now) }
     {
         self.teachers = desk.teachers().len() as u16;
-        self.lists.clear();
         copy_lists(&mut self.lists, desk.lanes());
     }
 

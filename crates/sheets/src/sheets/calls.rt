@@ -1,5 +1,5 @@
 // The calls of the sheets.
-ghost use Rattle.std.specs.Prelude.{◌≡◌, ◌≤◌, [], map, length, IfOk, vec_capacity, MatchResult};
+ghost use Rattle.std.specs.Prelude.{◌≡◌, IfOk, MatchResult};
 ghost use Rattle.lines.specs.Faults.{seen};
 ghost use Rattle.sheets.specs.Described.{Describes, Undescribed};
 ghost use Rattle.sheets.specs.Held.{model_of};
@@ -9,27 +9,24 @@ ghost use Rattle.sheets.specs.Tables.{tables_model, posts_sheet, staff_sheet, re
 ghost use Rattle.sheets.specs.Written.{writing};
 
 use super::super::posts::read_posts;
-use super::super::records::{Counts, Lane, Teacher};
+use super::super::records::{Counts, Lanes, Teacher, Teachers};
 use super::super::refusals::{WishRefusal, WriteRefusal};
 use super::super::staff::read_staff;
 use super::super::wishes::wishes_ok;
 use super::super::writes::{PostsSheet, StaffSheet, write_whole};
 use super::Sheets;
-use bounded::BoundedList;
+use bounded::{BoundedList, Table};
 use lines::Fault;
 use std::alloc::{AllocError, Global};
 
-// Both sheets, into empty tables; answers how many schools and subjects there are.
+// Both sheets, into the tables; answers how many schools and subjects there are.
 fn read_pair(
-    lanes: &mut Vec<Lane>,
-    teachers: &mut Vec<Teacher>,
+    lanes: &mut Lanes,
+    teachers: &mut Teachers,
     posts: &[u8],
     staff: &[u8],
 ) -> Result<Counts, Fault>
-    requires { (lanes.old.items ≡ []) × ((80 ≤ vec_capacity lanes.old) × ((teachers.old.items ≡ []) × (200 ≤ vec_capacity teachers.old))) }
-    ensures value { seen (λ p. tables_model p.schools p.subjects lanes.new.items teachers.new.items) result ≡ sheets_of posts.now staff.now }
-    ensures lane_capacity { vec_capacity lanes.new ≡ vec_capacity lanes.old }
-    ensures teacher_capacity { vec_capacity teachers.new ≡ vec_capacity teachers.old }
+    ensures { seen (λ p. tables_model p.schools p.subjects lanes.new.items.items teachers.new.items.items) result ≡ sheets_of posts.now staff.now }
 {
     let counts = read_posts(lanes, posts)?;
     read_staff(teachers, staff, counts)?;
@@ -41,8 +38,8 @@ impl Sheets {
     pub fn reserve(heap: Global) -> Result<Sheets, AllocError>
         ensures { IfOk result (λ s. model_of s ≡ blank) }
     {
-        let lanes = Vec::with_capacity(heap, 80)?;
-        let teachers = Vec::with_capacity(heap, 200)?;
+        let lanes = Table::reserve(heap)?;
+        let teachers = Table::reserve(heap)?;
         Ok(Sheets {
             schools: 0,
             subjects: 0,
@@ -68,8 +65,6 @@ impl Sheets {
         ensures value { (result, model_of self.new) ≡ reading (sheets_of posts.now staff.now) }
         ensures described { MatchResult result (λ _. Describes posts.now staff.now (model_of self.new)) (λ _. Undescribed posts.now staff.now) }
     {
-        self.lanes.clear();
-        self.teachers.clear();
         match read_pair(&mut self.lanes, &mut self.teachers, posts, staff) {
             Ok(counts) => {
                 self.schools = counts.schools;
@@ -116,8 +111,9 @@ impl Sheets {
         if !wishes_ok(self.schools, wishes) {
             return Err(WishRefusal::BadWishes);
         }
-        let record = &mut self.teachers[teacher];
+        let mut record = self.teachers.as_slice()[teacher];
         record.wish = BoundedList::copied(wishes);
+        self.teachers.set(teacher, record);
         Ok(())
     }
 }

@@ -1,4 +1,4 @@
-use Rattle.std.proofs.Common.{◌≡◌, ◌+◌, ◌-◌, ◌*◌, map, vec_items, vec_len, vec_capacity}
+use Rattle.std.proofs.Common.{◌≡◌, ◌+◌, ◌-◌, ◌*◌, map, length, vec_items}
 use Rattle.sheets.specs.Records.{repeat}
 use Rattle.sheets.specs.Model.{lane_record}
 use Rattle.sheets.specs.Posts.{lane, lanes}
@@ -7,6 +7,5 @@ use Rattle.sheets.proofs.posts.fill_lanes.Given as goal
 abbrev pub invariant-loop-i : goal.invariant-loop-i
 invariant-loop-i l =
     (l.line ≡ 4 + 2 * l._i)
-    × (vec_len l.all ≡ l._i)
-    × (vec_capacity l.all ≡ vec_capacity l.initial.all)
-    × (lanes l.count l.counts.schools l.counts.subjects l.bytes l.start ≡ repeat (lane l.counts.schools l.counts.subjects l.bytes) 2 (l.count - l._i) (map lane_record (vec_items l.all)) l.line l.place)
+    × (length (vec_items l.all.items) ≡ l._i)
+    × (lanes l.count l.counts.schools l.counts.subjects l.bytes l.start ≡ repeat (lane l.counts.schools l.counts.subjects l.bytes) 2 (l.count - l._i) (map lane_record (vec_items l.all.items)) l.line l.place)

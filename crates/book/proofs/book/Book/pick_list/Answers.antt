@@ -11,10 +11,10 @@ pub returns-in-Some : goal.returns-in-Some
 returns-in-Some c =
     let b = c.args.self.now in
     let h = c.in-Some.ensures.lookup in
-    let inside : c.args.t < length (model_of b.sheets).teachers = omega (arith, picks_len b, ap length c.deref.ensures.value, h.3.0) in
-    c.as_slice.ensures.value ∙ list_stored (model_of b.sheets) (fixed_of b).ranks (state_of b).cuts b.posted c.args.t c.deref.result.now (ap (λ (xs : List (BoundedList 80)). map listed xs) c.deref.ensures.value ∙ b.picked) c.in-Some.list.now inside h.1
+    let inside : c.args.t < length (model_of b.sheets).teachers = omega (arith, picks_len b, ap length c.as_slice.ensures.value, h.3.0) in
+    c.as_slice-in-Some.ensures.value ∙ list_stored (model_of b.sheets) (fixed_of b).ranks (state_of b).cuts b.posted c.args.t c.as_slice.result.now (ap (λ (xs : List (BoundedList 80)). map listed xs) c.as_slice.ensures.value ∙ b.picked) c.in-Some.list.now inside h.1
 
 pub returns-in-None : goal.returns-in-None
 returns-in-None c =
     let b = c.args.self.now in
-    sym (no_list (model_of b.sheets) (fixed_of b).ranks (state_of b).cuts b.posted c.args.t (omega (arith, picks_len b, ap length c.deref.ensures.value, c.in-None.ensures.lookup.3)))
+    sym (no_list (model_of b.sheets) (fixed_of b).ranks (state_of b).cuts b.posted c.args.t (omega (arith, picks_len b, ap length c.as_slice.ensures.value, c.in-None.ensures.lookup.3)))

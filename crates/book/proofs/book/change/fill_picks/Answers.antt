@@ -7,8 +7,8 @@ use Rattle.sheets.specs.Model.{TeacherRecord, teacher_record}
 use Rattle.book.proofs.Changes.{picks_whole, map_record}
 use Rattle.book.proofs.book.change.fill_picks.Goals as goal
 
-pub returns-clause-value : goal.returns-clause-value
-returns-clause-value c =
+pub returns : goal.returns
+returns c =
     let m = model_of c.args.sheets.now in
     let ts = c.teachers-record-items.result.now in
     let f : TeacherRecord → List ℕ = λ t. take 80 (pick_of m.posts (person t) t.wish) in

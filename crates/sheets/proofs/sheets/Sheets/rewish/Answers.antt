@@ -1,5 +1,6 @@
-use Rattle.std.proofs.Common.{◌≡◌, ◌<◌, true, List, length, vec_items, Ok, sym, ap, ◌∙◌, arith}
+use Rattle.std.proofs.Common.{◌≡◌, ◌<◌, true, List, map, length, get_or, vec_items, Ok, sym, ap, ◌∙◌, arith}
 use Rattle.std.proofs.lemmas.List.{length-map}
+use Rattle.sheets.specs.declared.records.Teacher.{Teacher}
 use Rattle.sheets.specs.Held.{model_of}
 use Rattle.sheets.specs.Model.{TeacherRecord, teacher_record}
 use Rattle.sheets.specs.Ranges.{wish_ok}
@@ -9,29 +10,27 @@ use Rattle.sheets.proofs.sheets.Sheets.rewish.Goals as goal
 
 pub invariant_of-self : goal.invariant_of-self
 invariant_of-self c =
-    let ts = vec_items c.args.self.now.teachers in
+    let ts = vec_items c.args.self.now.teachers.items in
     let t = c.args.teacher in
     let w = c.args.wishes.now in
     let ok : wish_ok c.args.self.now.schools w ≡ true = sym c.if-not-wishes_ok.ensures in
-    let l : t < length ts = omega (arith, c.args.self.now.teachers.ok.0) in
+    let l : t < length ts = omega arith in
     let m = model_of c.args.self.now in
     let in' : t < length m.teachers = omega (arith, length-map ts teacher_record) in
     record {
-      room = c.args.self.now.room;
-      few = c.args.self.now.few;
       kept =
-          ap (λ (xs : List TeacherRecord). kept (record { posts = m.posts; teachers = xs })) (table_then ts t c.index_mut-record.result.now l c.index_mut-record.ensures.value w c.copied-record.result c.copied-record.ensures (wish_few c.args.self.now.schools w ok))
+          ap (λ (xs : List TeacherRecord). kept (record { posts = m.posts; teachers = xs })) (ap (map teacher_record) c.set.ensures ∙ table_then ts t c.index-as_slice-teacher.result l (c.index-as_slice-teacher.is ∙ ap (λ (xs : List Teacher). get_or xs t c.index-as_slice-teacher.result) c.as_slice.ensures.value) w c.copied-record.result c.copied-record.ensures (wish_few c.args.self.now.schools w ok))
           ∙ then_kept m t w in' ok c.args.self.now.kept;
     }
 
 pub returns : goal.returns
 returns c =
-    let ts = vec_items c.args.self.now.teachers in
+    let ts = vec_items c.args.self.now.teachers.items in
     let t = c.args.teacher in
     let w = c.args.wishes.now in
     let ok : wish_ok c.args.self.now.schools w ≡ true = sym c.if-not-wishes_ok.ensures in
-    let l : t < length ts = omega (arith, c.args.self.now.teachers.ok.0) in
+    let l : t < length ts = omega arith in
     let m = model_of c.args.self.now in
     let in' : t < length m.teachers = omega (arith, length-map ts teacher_record) in
-    ap (λ (xs : List TeacherRecord). (Ok tt, record { posts = m.posts; teachers = xs })) (table_then ts t c.index_mut-record.result.now l c.index_mut-record.ensures.value w c.copied-record.result c.copied-record.ensures (wish_few c.args.self.now.schools w ok))
+    ap (λ (xs : List TeacherRecord). (Ok tt, record { posts = m.posts; teachers = xs })) (ap (map teacher_record) c.set.ensures ∙ table_then ts t c.index-as_slice-teacher.result l (c.index-as_slice-teacher.is ∙ ap (λ (xs : List Teacher). get_or xs t c.index-as_slice-teacher.result) c.as_slice.ensures.value) w c.copied-record.result c.copied-record.ensures (wish_few c.args.self.now.schools w ok))
     ∙ sym (rewished_yes m t w in' ok)
