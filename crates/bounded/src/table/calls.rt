@@ -1,5 +1,7 @@
 // The calls of a table.
 ghost use Rattle.std.specs.Prelude.{◌≡◌, ◌≤◌, ◌<◌, [], ◌∷◌, ◌++◌, length, slice_set, IfOk};
+ghost use Rattle.std.specs.Fn.{FnOnceReturnsAtMut};
+ghost use Rattle.bounded.specs.Changes.{Changes};
 
 use super::Table;
 use std::alloc::{AllocError, Global};
@@ -37,6 +39,15 @@ impl<T, const N: usize> Table<T, N> {
         ensures { self.new.items.items ≡ slice_set self.old.items.items at item }
     {
         self.items[at] = item;
+    }
+
+    // Lends the item at the place, to be changed where it stands.
+    pub fn change<F: FnOnce(&mut T)>(&mut self, at: usize, change: F)
+        requires inside { at < length self.old.items.items }
+        requires callable { F.IsAlwaysCallable change }
+        ensures { Changes (FnOnceReturnsAtMut F.FnOnce change) self.old.items.items at self.new.items.items }
+    {
+        change(&mut self.items[at]);
     }
 
     // Adds an item at the end, where fewer than N stand.

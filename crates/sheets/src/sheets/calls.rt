@@ -111,9 +111,8 @@ impl Sheets {
         if !wishes_ok(self.schools, wishes) {
             return Err(WishRefusal::BadWishes);
         }
-        let mut record = self.teachers.as_slice()[teacher];
-        record.wish = BoundedList::copied(wishes);
-        self.teachers.set(teacher, record);
+        let list = BoundedList::copied(wishes);
+        self.teachers.change(teacher, |record| record.wish = list);
         Ok(())
     }
 }

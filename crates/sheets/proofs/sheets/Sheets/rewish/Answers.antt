@@ -1,4 +1,4 @@
-use Rattle.std.proofs.Common.{◌≡◌, ◌<◌, true, List, map, length, get_or, vec_items, Ok, sym, ap, ◌∙◌, arith}
+use Rattle.std.proofs.Common.{◌≡◌, ◌<◌, true, List, length, map, set, vec_items, Ok, sym, ap, ◌∙◌, arith, rules}
 use Rattle.std.proofs.lemmas.List.{length-map}
 use Rattle.sheets.specs.declared.records.Teacher.{Teacher}
 use Rattle.sheets.specs.Held.{model_of}
@@ -17,11 +17,10 @@ invariant_of-self c =
     let l : t < length ts = omega arith in
     let m = model_of c.args.self.now in
     let in' : t < length m.teachers = omega (arith, length-map ts teacher_record) in
-    record {
-      kept =
-          ap (λ (xs : List TeacherRecord). kept (record { posts = m.posts; teachers = xs })) (ap (map teacher_record) c.set.ensures ∙ table_then ts t c.index-as_slice-teacher.result l (c.index-as_slice-teacher.is ∙ ap (λ (xs : List Teacher). get_or xs t c.index-as_slice-teacher.result) c.as_slice.ensures.value) w c.copied-record.result c.copied-record.ensures (wish_few c.args.self.now.schools w ok))
-          ∙ then_kept m t w in' ok c.args.self.now.kept;
-    }
+    let x = c.change.ensures.0 in
+    let left : ◌≡◌ {A = Teacher} c.change.ensures.1 (record { home = x.home; main = x.main; also = x.also; wish = c.copied-list.result; points = x.points; cost = x.cost }) = search rules in
+    let then' = ap (map teacher_record) (c.change.ensures.4 ∙ ap (set ts t) left) ∙ table_then ts t x l (sym c.change.ensures.2) w c.copied-list.result c.copied-list.ensures (wish_few c.args.self.now.schools w ok) in
+    record { kept = ap (λ (xs : List TeacherRecord). kept (record { posts = m.posts; teachers = xs })) then' ∙ then_kept m t w in' ok c.args.self.now.kept }
 
 pub returns : goal.returns
 returns c =
@@ -32,5 +31,7 @@ returns c =
     let l : t < length ts = omega arith in
     let m = model_of c.args.self.now in
     let in' : t < length m.teachers = omega (arith, length-map ts teacher_record) in
-    ap (λ (xs : List TeacherRecord). (Ok tt, record { posts = m.posts; teachers = xs })) (ap (map teacher_record) c.set.ensures ∙ table_then ts t c.index-as_slice-teacher.result l (c.index-as_slice-teacher.is ∙ ap (λ (xs : List Teacher). get_or xs t c.index-as_slice-teacher.result) c.as_slice.ensures.value) w c.copied-record.result c.copied-record.ensures (wish_few c.args.self.now.schools w ok))
-    ∙ sym (rewished_yes m t w in' ok)
+    let x = c.change.ensures.0 in
+    let left : ◌≡◌ {A = Teacher} c.change.ensures.1 (record { home = x.home; main = x.main; also = x.also; wish = c.copied-list.result; points = x.points; cost = x.cost }) = search rules in
+    let then' = ap (map teacher_record) (c.change.ensures.4 ∙ ap (set ts t) left) ∙ table_then ts t x l (sym c.change.ensures.2) w c.copied-list.result c.copied-list.ensures (wish_few c.args.self.now.schools w ok) in
+    ap (λ (xs : List TeacherRecord). (Ok tt, record { posts = m.posts; teachers = xs })) then' ∙ sym (rewished_yes m t w in' ok)
