@@ -58,6 +58,7 @@ impl FaultKind {
         self as u8
     }
 
+    // Who finds it. A match, and no conversion: it sorts eight kinds into two layers.
     fn layer(self) -> Layer
         ensures { result ≡ layer_of self }
     {

@@ -19,7 +19,7 @@ pub enum Line<'a> {
 }
 
 impl<'a> Line<'a> {
-    // The line with this key.
+    // The line with this key: a match that sorts the keys into three kinds, and chooses nothing to run.
     fn with_key(key: Key, value: &'a [u8], place: usize) -> Line<'a>
         ensures { shape result ≡ shaped key value.now place }
     {

@@ -52,7 +52,7 @@ fn show_sheet(rt: &HostRuntime, place: &Place<Points, Seats>, size: usize) -> Re
     Ok(())
 }
 
-// The answer as one number: a refusal by its own, above 1000.
+// The answer as one number, since a line of the output has one column for both: a refusal by its own, above 1000.
 fn shown(answer: Result<u16, Refusal>) -> u16 {
     answer.unwrap_or_else(|refusal| 1000 + u16::from(refusal.number()))
 }

@@ -6,6 +6,7 @@ ghost use Rattle.sheets.specs.Handed.{chosen as chosen_of, text_at};
 use lines::Sheet;
 use text::position_of;
 
+// The sheet with the number, which stays a number, since each has an answer.
 fn chosen<'a>(posts: &'a [u8], staff: &'a [u8], sheet: u8) -> &'a [u8]
     ensures { result.now ≡ chosen_of sheet posts.now staff.now }
 {
@@ -15,12 +16,14 @@ fn chosen<'a>(posts: &'a [u8], staff: &'a [u8], sheet: u8) -> &'a [u8]
     }
 }
 
+// What stands from the place on.
 fn rest_from(s: &[u8], place: usize) -> &[u8]
     ensures { result.now ≡ drop place s.now }
 {
     &s[place.min(s.len())..]
 }
 
+// The bytes before the first line end.
 fn first_line(s: &[u8]) -> &[u8]
     ensures { result.now ≡ take (before 10 s.now) s.now }
 {

@@ -16,7 +16,7 @@ enum Written {
 const ALL: [Written; 3] = [Written::Posts, Written::Staff, Written::Result];
 
 impl Written {
-    // Writes the sheet into the buffer: its length, or the number of the refusal above 10,000.
+    // Writes the sheet into the buffer: its length, or the number of the refusal above 10,000, since a line of the output has one column for both.
     fn write(self, place: &Place<Points, Seats>, room: &mut [u8]) -> usize {
         let answer = match self {
             Written::Posts => place.write_posts(room),

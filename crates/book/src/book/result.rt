@@ -28,7 +28,7 @@ impl Text for ResultSheet<'_> {
     }
 }
 
-// The number of the lane that is offered, from 1; 0 for none.
+// The number of the lane that is offered, from 1; 0 for none, as the result sheet has it.
 fn seat(offer: Option<u16>) -> u16
     requires { IfSome offer (λ l. l < 80) }
     ensures { result ≡ seat_of offer }
