@@ -1,3 +1,4 @@
+pub mod Spots
 pub mod Records
 pub mod Model
 pub mod Posts

@@ -8,6 +8,7 @@ mod posts;
 mod records;
 mod refusals;
 mod sheets;
+mod spots;
 mod staff;
 mod wishes;
 mod writes;

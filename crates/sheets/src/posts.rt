@@ -4,22 +4,13 @@ ghost use Rattle.bounded.specs.Listed.{listed};
 ghost use Rattle.lines.specs.Faults.{seen};
 ghost use Rattle.sheets.specs.Model.{lane_record};
 ghost use Rattle.sheets.specs.Tables.{posts_model};
-ghost use Rattle.sheets.specs.Posts.{posts_spot, taken as taken_of, lane_within, lane_line, lane as lane_of, lanes as lanes_of, posts_of};
+ghost use Rattle.sheets.specs.Posts.{taken as taken_of, lane_within, lane_line, lane as lane_of, lanes as lanes_of, posts_of};
 
 use super::records::{Counts, Lane, Lanes};
+use super::spots::at;
 use bounded::BoundedList;
-use lines::{Fault, FaultKind, Key, Sheet, Spot, field, number_at, single, unrepeated};
-
-// Line `line` of the posts sheet, which begins at the place.
-fn posts_spot(line: usize, place: usize) -> Spot
-    ensures { result ≡ posts_spot line place }
-{
-    Spot {
-        sheet: Sheet::Posts,
-        line,
-        place,
-    }
-}
+use lines::Sheet::Posts;
+use lines::{Fault, FaultKind, Key, Spot, field, number_at, single, unrepeated};
 
 // Has the lane this school and subject? No derived equality says it: two lanes may differ in size and list.
 fn same_pair(l: &Lane, school: u16, subject: u16) -> bool
@@ -76,8 +67,8 @@ fn read_lane(
     requires { line < 2 ^ 32 }
     ensures { seen (λ p. (lane_record p.0, p.1)) result ≡ lane_of counts.schools counts.subjects bytes.now (map lane_record done.now) line place }
 {
-    let (ns, place) = read_lane_line(bytes, counts, done, posts_spot(line, place))?;
-    let (list, place) = unrepeated::<20>(bytes, posts_spot(line + 1, place), Key::List, 200)?;
+    let (ns, place) = read_lane_line(bytes, counts, done, at(Posts, line, place))?;
+    let (list, place) = unrepeated::<20>(bytes, at(Posts, line + 1, place), Key::List, 200)?;
     let lane = Lane {
         school: number_at(ns.as_slice(), 0),
         subject: number_at(ns.as_slice(), 1),
@@ -115,15 +106,15 @@ pub(crate) fn read_posts(all: &mut Lanes, bytes: &[u8]) -> Result<Counts, Fault>
     ensures { seen (λ p. posts_model p.schools p.subjects all.new.items.items) result ≡ posts_of bytes.now }
 {
     if bytes.len() > 30000 {
-        return Err(posts_spot(0, 0).fault(FaultKind::TooLong));
+        return Err(at(Posts, 0, 0).fault(FaultKind::TooLong));
     }
-    let (schools, place) = single(bytes, posts_spot(1, 0), Key::Schools, 1, 30)?;
-    let (subjects, place) = single(bytes, posts_spot(2, place), Key::Subjects, 1, 10)?;
-    let (count, place) = single(bytes, posts_spot(3, place), Key::Lanes, 1, 80)?;
+    let (schools, place) = single(bytes, at(Posts, 1, 0), Key::Schools, 1, 30)?;
+    let (subjects, place) = single(bytes, at(Posts, 2, place), Key::Subjects, 1, 10)?;
+    let (count, place) = single(bytes, at(Posts, 3, place), Key::Lanes, 1, 80)?;
     let counts = Counts { schools, subjects };
     let place = fill_lanes(all, bytes, counts, count, place)?;
     if place != bytes.len() {
-        let behind = posts_spot(4 + 2 * count as usize, place);
+        let behind = at(Posts, 4 + 2 * count as usize, place);
         return Err(behind.fault(FaultKind::Trailing));
     }
     Ok(counts)

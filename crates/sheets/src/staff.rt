@@ -2,21 +2,12 @@
 ghost use Rattle.std.specs.Prelude.{◌≡◌, ◌^◌, ◌<◌, ◌≤◌, map};
 ghost use Rattle.lines.specs.Faults.{seen};
 ghost use Rattle.sheets.specs.Model.{teacher_record};
-ghost use Rattle.sheets.specs.Staff.{staff_spot, teacher as teacher_of, teachers as teachers_of, staff_of};
+ghost use Rattle.sheets.specs.Staff.{teacher as teacher_of, teachers as teachers_of, staff_of};
 
 use super::records::{Counts, Teacher, Teachers};
-use lines::{Fault, FaultKind, Key, Sheet, Spot, licences, single, unrepeated};
-
-// Line `line` of the staff sheet, which begins at the place.
-fn staff_spot(line: usize, place: usize) -> Spot
-    ensures { result ≡ staff_spot line place }
-{
-    Spot {
-        sheet: Sheet::Staff,
-        line,
-        place,
-    }
-}
+use super::spots::at;
+use lines::Sheet::Staff;
+use lines::{Fault, FaultKind, Key, licences, single, unrepeated};
 
 // The six lines of a teacher, and the place behind them.
 fn read_teacher(
@@ -30,12 +21,12 @@ fn read_teacher(
 {
     let schools = counts.schools;
     let subjects = counts.subjects;
-    let (home, place) = single(bytes, staff_spot(line, place), Key::Home, 0, schools)?;
-    let (main, place) = single(bytes, staff_spot(line + 1, place), Key::Main, 1, subjects)?;
-    let (also, place) = licences(bytes, staff_spot(line + 2, place), main, subjects)?;
-    let (wish, place) = unrepeated::<12>(bytes, staff_spot(line + 3, place), Key::Wish, schools)?;
-    let (points, place) = single(bytes, staff_spot(line + 4, place), Key::Points, 0, 65535)?;
-    let (cost, place) = single(bytes, staff_spot(line + 5, place), Key::Cost, 0, 100)?;
+    let (home, place) = single(bytes, at(Staff, line, place), Key::Home, 0, schools)?;
+    let (main, place) = single(bytes, at(Staff, line + 1, place), Key::Main, 1, subjects)?;
+    let (also, place) = licences(bytes, at(Staff, line + 2, place), main, subjects)?;
+    let (wish, place) = unrepeated::<12>(bytes, at(Staff, line + 3, place), Key::Wish, schools)?;
+    let (points, place) = single(bytes, at(Staff, line + 4, place), Key::Points, 0, 65535)?;
+    let (cost, place) = single(bytes, at(Staff, line + 5, place), Key::Cost, 0, 100)?;
     let teacher = Teacher {
         home,
         main,
@@ -75,12 +66,12 @@ pub(crate) fn read_staff(all: &mut Teachers, bytes: &[u8], counts: Counts) -> Re
     ensures { seen (λ _. map teacher_record all.new.items.items) result ≡ staff_of counts.schools counts.subjects bytes.now }
 {
     if bytes.len() > 30000 {
-        return Err(staff_spot(0, 0).fault(FaultKind::TooLong));
+        return Err(at(Staff, 0, 0).fault(FaultKind::TooLong));
     }
-    let (count, place) = single(bytes, staff_spot(1, 0), Key::Teachers, 1, 200)?;
+    let (count, place) = single(bytes, at(Staff, 1, 0), Key::Teachers, 1, 200)?;
     let place = fill_teachers(all, bytes, counts, count, place)?;
     if place != bytes.len() {
-        let behind = staff_spot(2 + 6 * count as usize, place);
+        let behind = at(Staff, 2 + 6 * count as usize, place);
         return Err(behind.fault(FaultKind::Trailing));
     }
     Ok(())
