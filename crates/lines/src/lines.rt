@@ -9,8 +9,8 @@ use super::keys::{Key, value_of};
 use bounded::BoundedList;
 use text::{position_of, read_list};
 
-// A line by its kind, whose cases have the same two fields: readers tell the kinds apart. The value stays a part of the sheet, and its place
-// there is kept with it.
+// A line by its kind. The cases have the same two fields and stay cases, since a line is read as a head line, a lane line or a teacher line. The
+// value stays a part of the sheet, and its place there is kept with it.
 #[derive(Clone, Copy)]
 pub enum Line<'a> {
     Head { value: &'a [u8], place: usize },

@@ -14,7 +14,7 @@ pub(crate) fn numbered<T>(xs: &[T], n: u16) -> Option<&T>
     xs.get(usize::from(n.checked_sub(1)?))
 }
 
-// The number that stands at n, counted from 1; 0 where there is none.
+// The number that stands at n, counted from 1; 0 where there is none, and no Option: an unknown teacher has 0 points, and an unknown lane no seat.
 pub(crate) fn entry(ns: &[u16], n: u16) -> u16
     ensures { result ≡ entry_of ns.now n 0 }
 {

@@ -4,7 +4,8 @@ ghost use Rattle.sheets.specs.Tables.{tables_model, kept as kept_of};
 
 use super::records::{Lanes, Teachers};
 
-// Blank at first and after a fault, else what the last pair of sheets describes.
+// Blank at first and after a fault, else what the last pair of sheets describes. Blank sheets have 0 schools, which no pair of sheets has: so no Option
+// says it again.
 #[derive(Drop)]
 pub struct Sheets {
     schools: u16,

@@ -84,7 +84,7 @@ impl Book {
         ensures long { length result ≡ 200 }
         ensures each { (t : ℕ) → slice_index_or result t None ≡ offer_in (book_model self.now) t }
     {
-        // An array for the most teachers: no call allocates, and a list that is generic in its items cannot hold an array of them.
+        // An array with a place for each teacher that there may be: no call allocates, and callers are promised 200 places.
         array::from_fn(|t| self.offer(t))
     }
 }

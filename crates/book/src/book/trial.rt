@@ -144,7 +144,7 @@ impl Book {
         is_lane(lanes.find(|k| self.stops_at(l, t, usize::from(*k))), l)
     }
 
-    // The highest cutoff of the lane at which the teacher would ask for it; 0 if there is none, and no Option: each cutoff is above it.
+    // The highest cutoff of the lane at which the teacher would ask for it; 0 if there is none, and no Option, as ranks have it.
     fn reach(&self, l: usize, t: usize) -> u16
         ensures { result ≡ reach_in (book_model self.now) l t }
     {

@@ -39,7 +39,7 @@ fn list_of(lists: &[BoundedList<20>], lane: u16) -> &[u16]
     numbered(lists, lane).map_or(&[], |list| list.as_slice())
 }
 
-// Where the list names the teacher, from 0; its length where it does not.
+// Where the list names the teacher, from 0; its length where it does not, and no Option: who is not named comes behind all who are.
 fn place_in(list: &[u16], teacher: u16) -> usize
     ensures { result ≡ place_of teacher list.now }
 {
