@@ -50,9 +50,7 @@ pub fn read_list<const N: usize>(value: &[u8]) -> Option<BoundedList<N>>
     let mut rest = value;
     loop {
         let k = position_of(rest, b',');
-        let Some(n) = read_number(&rest[0..k]) else {
-            return None;
-        };
+        let n = read_number(&rest[0..k])?;
         out.push(n).ok()?;
         if k == rest.len() {
             return Some(out);
