@@ -2,7 +2,7 @@
 use anyhow::{Result, bail};
 use round::Place;
 use rules::{Points, Seats};
-use sheets::Sheets;
+use sheets::{Sheets, WriteRefusal};
 use std::io::Write;
 
 // The sheets that a place writes, with the numbers under which they are shown.
@@ -16,14 +16,13 @@ enum Written {
 const ALL: [Written; 3] = [Written::Posts, Written::Staff, Written::Result];
 
 impl Written {
-    // Writes the sheet into the buffer: its length, or the number of the refusal above 10,000, since a line of the output has one column for both.
-    fn write(self, place: &Place<Points, Seats>, room: &mut [u8]) -> usize {
-        let answer = match self {
+    // Writes the sheet into the buffer.
+    fn write(self, place: &Place<Points, Seats>, room: &mut [u8]) -> Result<usize, WriteRefusal> {
+        match self {
             Written::Posts => place.write_posts(room),
             Written::Staff => place.write_staff(room),
             Written::Result => place.write_result(room),
-        };
-        answer.unwrap_or_else(|refusal| 10000 + usize::from(refusal.number()))
+        }
     }
 }
 
@@ -35,9 +34,11 @@ fn show_sheet(
     size: usize,
 ) -> Result<()> {
     let mut room = vec![in rt.alloc(); 46u8; size]?;
-    let n = sheet.write(place, &mut room);
+    let answer = sheet.write(place, &mut room);
+    // A line has one column for both: the length, or the number of the refusal above 10,000.
+    let shown = answer.unwrap_or_else(|refusal| 10000 + usize::from(refusal.number()));
     let number = sheet as u8;
-    println!(rt; "sheet {number} in {size} bytes: {n}")?;
+    println!(rt; "sheet {number} in {size} bytes: {shown}")?;
     let mut out = rt.stdout();
     out.write_all(&room)?;
     println!(rt; "")?;
@@ -47,23 +48,20 @@ fn show_sheet(
 // The sheet in a buffer that is one byte too short, exact, and two bytes too long.
 fn show_sizes(rt: &HostRuntime, place: &Place<Points, Seats>, sheet: Written) -> Result<()> {
     let mut room = vec![in rt.alloc(); 0u8; 1000]?;
-    let n = sheet.write(place, &mut room);
-    if n > 0 && n < 1000 {
+    let n = sheet.write(place, &mut room)?;
+    if n > 0 {
         show_sheet(rt, place, sheet, n - 1)?;
     }
-    if n < 1000 {
-        show_sheet(rt, place, sheet, n)?;
-        show_sheet(rt, place, sheet, n + 2)?;
-    }
-    Ok(())
+    show_sheet(rt, place, sheet, n)?;
+    show_sheet(rt, place, sheet, n.saturating_add(2))
 }
 
 // Opens the place with the two sheets that it writes.
 fn reopen(rt: &HostRuntime, place: &mut Place<Points, Seats>, desk: &mut Sheets) -> Result<()> {
     let mut posts = vec![in rt.alloc(); 0u8; 1000]?;
     let mut staff = vec![in rt.alloc(); 0u8; 1000]?;
-    let m = Written::Posts.write(place, &mut posts);
-    let n = Written::Staff.write(place, &mut staff);
+    let m = Written::Posts.write(place, &mut posts)?;
+    let n = Written::Staff.write(place, &mut staff)?;
     let (Some(posts), Some(staff)) = (posts.get(..m), staff.get(..n)) else {
         bail!("a sheet was not written");
     };
