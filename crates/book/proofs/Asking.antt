@@ -1,7 +1,7 @@
 -- Ranks and offers that are read from a book.
-use Rattle.std.proofs.Common.{◌≡◌, ℕ, ◌<◌, ◌≤◌, Bool, true, false, cond, not, ◌&&◌, eqb, ltb, leb, List, [], map, length, get_or, replicate, None, sym, refl, ap, ◌∙◌, ap₂, ⊎_elim, arith}
+use Rattle.std.proofs.Common.{◌≡◌, ℕ, ◌+◌, ◌<◌, ◌≤◌, Bool, true, false, cond, not, ◌&&◌, eqb, ltb, leb, List, [], map, length, get_or, drop, replicate, Some, None, sym, refl, ap, ◌∙◌, ap₂, ⊎_elim, arith}
 use lib.ListN.{length-replicate}
-use Rattle.std.proofs.lemmas.List.{get_or_past, get_or-map, get_or-replicate, length-map}
+use Rattle.std.proofs.lemmas.List.{get_or_past, get_or-map, get_or-replicate, length-map, at_drop_more, at_drop_all}
 use Rattle.std.proofs.lemmas.Bool.{cases_lt, lt-ltb, le-ltb, cond-true, cond-false}
 use Rattle.bounded.specs.Listed.{listed}
 use Rattle.bounded.specs.declared.list.BoundedList.{BoundedList}
@@ -38,6 +38,19 @@ module _ (m : Model) (t l : ℕ) where
   clears_yes n = sym (ap (λ b. b && leb (m.1.cuts l) (m.0.ranks l t)) (lt-ltb 0 (m.0.ranks l t) (omega (arith, n))))
 
 -- ---- offers
+
+module _ (p : ℕ → Bool) (xs : List ℕ) (i : ℕ) where
+  pub first_hit : i < length xs → p (get_or xs i 0) ≡ true → first p (drop i xs) ≡ Some (get_or xs i 0)
+  unfolding first
+  first_hit h e = at_drop_more (first p) xs i 0 h ∙ cond-true _ _ _ e
+
+  pub first_miss : i < length xs → p (get_or xs i 0) ≡ false → first p (drop i xs) ≡ first p (drop (i + 1) xs)
+  unfolding first
+  first_miss h e = at_drop_more (first p) xs i 0 h ∙ cond-false _ _ _ e
+
+  pub first_none : length xs ≤ i → first p (drop i xs) ≡ None
+  unfolding first
+  first_none h = at_drop_all (first p) xs i h
 
 -- the stored pick list is the one by the wishes
 module _ (m : SheetsModel) (ranks : ℕ → ℕ → ℕ) (cuts : ℕ → ℕ) (posted : Bool) (t : ℕ) where

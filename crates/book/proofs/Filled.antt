@@ -1,8 +1,9 @@
--- Arrays that a closure makes, and lists that it searches.
-use Rattle.std.proofs.Common.{◌≡◌, ℕ, zero, suc, ◌+◌, ◌<◌, ◌≤◌, Bool, cond, ◌≢◌, List, [], ◌∷◌, length, get_or, Some, sym, refl, ap, ◌∙◌, subst, ⊎_elim, arith}
-use Rattle.std.proofs.lemmas.List.{get_or_past}
+-- Arrays that a closure makes or of which the front is filled, and lists that a closure searches.
+use Rattle.std.proofs.Common.{◌≡◌, ℕ, zero, suc, ◌+◌, ◌-◌, ◌<◌, ◌≤◌, Bool, cond, ◌≢◌, List, [], ◌∷◌, ◌++◌, length, get_or, drop, replicate, Some, sym, refl, ap, ◌∙◌, subst, ⊎_elim, arith}
+use lib.ListN.{length-replicate}
+use Rattle.std.proofs.lemmas.List.{get_or_past, get_or_append_left, get_or-append_right, get_or-replicate, drop-replicate}
 use Rattle.std.proofs.lemmas.Bool.{cases_lt, cases_eq}
-use Rattle.std.specs.Array.{IsFromFnResultFrom, IsFromFnResult, MapsFrom, IsMapOf}
+use Rattle.std.specs.Array.{IsFromFnResultFrom, IsFromFnResult}
 use Rattle.std.specs.Iterator.{ActsAs}
 use Rattle.std.specs.List.{find}
 use Rattle.matching.specs.Picks.{first}
@@ -24,21 +25,16 @@ module _ {F B : Type 0} (g : Mut F (ℕ × Unit {0}) B) (h : ℕ → B) where
       (λ (b : n ≤ t). get_or_past ys t d (omega (arith, w.long)) ∙ sym (past t b))
       (cases_lt t n)
 
--- ---- an array made of another
+-- ---- an array of which the first n places are filled, and the others keep the default
 
-module _ {F A B : Type 0} (g : Mut F (A × Unit {0}) B) (h : A → B) where
-  mapped_from : (xs : List A) (ys : List B) (i n : ℕ) (f : F) → ActsAs g f h → MapsFrom g f xs ys i n → (t : ℕ) (c : A) (d : B) → i ≤ t → t < i + n → get_or ys t d ≡ h (get_or xs t c)
-  mapped_from xs ys i zero f acts w t c d low high = absurd (omega arith)
-  mapped_from xs ys i (suc n) f acts w t c d low high = ⊎_elim
-      (λ (e : t ≡ i). ap (λ (j : ℕ). get_or ys j d) e ∙ w.4.1 d ∙ (acts w.1 w.2 w.0 w.5).1 ∙ ap h (sym (w.3.1 c)) ∙ ap (λ (j : ℕ). h (get_or xs j c)) (sym e))
-      (λ (k : t ≢ i). mapped_from xs ys (i + 1) n w.0 (subst (λ (p : F). ActsAs g p h) (sym (acts w.1 w.2 w.0 w.5).0) acts) w.6 t c d (omega arith) (omega arith))
-      (cases_eq t i)
+spare : {B : Type 0} (n t : ℕ) (d : B) → get_or (replicate n d) t d ≡ d
+spare n t d = ⊎_elim (λ (a : t < n). get_or-replicate n t d d a) (λ (b : n ≤ t). get_or_past (replicate n d) t d (omega (arith, b, length-replicate n d))) (cases_lt t n)
 
-  -- where h keeps the default
-  pub mapped : (xs : List A) (ys : List B) (n : ℕ) (f : F) → ActsAs g f h → IsMapOf g f xs ys n → (c : A) → length xs ≡ n → (t : ℕ) → get_or ys t (h c) ≡ h (get_or xs t c)
-  mapped xs ys n f acts w c long t = ⊎_elim
-      (λ (a : t < n). mapped_from xs ys 0 n f acts w.each t c (h c) (omega arith) (omega arith))
-      (λ (b : n ≤ t). get_or_past ys t (h c) (omega (arith, w.long)) ∙ ap h (sym (get_or_past xs t c (omega arith))))
+module _ {B : Type 0} (h : ℕ → B) (d : B) (xs : List B) (n m : ℕ) where
+  pub fronted : length xs ≡ n → ((k : ℕ) → k < n → get_or xs k d ≡ h k) → ((t : ℕ) → n ≤ t → h t ≡ d) → (t : ℕ) → get_or (xs ++ drop n (replicate m d)) t d ≡ h t
+  fronted long each past t = ⊎_elim
+      (λ (a : t < n). get_or_append_left xs (drop n (replicate m d)) d t (omega (arith, long, a)) ∙ each t a)
+      (λ (b : n ≤ t). get_or-append_right xs (drop n (replicate m d)) n t d long b ∙ ap (λ (ys : List B). get_or ys (t - n) d) (drop-replicate n m d) ∙ spare (m - n) (t - n) d ∙ sym (past t b))
       (cases_lt t n)
 
 -- ---- a search

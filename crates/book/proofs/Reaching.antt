@@ -1,6 +1,7 @@
 -- Who asks for a lane at a cutoff, by how far each teacher reaches.
-use Rattle.std.proofs.Common.{◌≡◌, ℕ, ◌≤◌, Bool, true, false, cond, ◌&&◌, ◌||◌, eqb, ltb, leb, ◌≢◌, List, [], ◌∷◌, length, get_or, Some, vec_items, sym, refl, ap, ◌∙◌, ap₂, inl, inr, ⊎_elim}
+use Rattle.std.proofs.Common.{◌≡◌, ℕ, ◌+◌, ◌<◌, ◌≤◌, Bool, true, false, cond, ◌&&◌, ◌||◌, eqb, ltb, leb, ◌≢◌, List, [], ◌∷◌, ◌++◌, length, get_or, take, set, Some, vec_items, sym, refl, ap, ◌∙◌, ap₂, inl, inr, ⊎_elim}
 use mathlib.Core.Path.{fun_ext}
+use Rattle.std.proofs.lemmas.List.{take_more_set}
 use Rattle.std.proofs.lemmas.Bool.{cases_Bool, cases_eq, both_ways, eq-eqb, ne_eqb, eqb-true, cond-true, cond-false}
 use Rattle.matching.specs.Count.{bit}
 use Rattle.matching.specs.Log.{picks}
@@ -15,6 +16,7 @@ use Rattle.book.specs.Model.{Model, anyone, board_in, clears_in, offer_in}
 use Rattle.book.specs.Reach.{stops_at, comes_to, reach_in, reaches}
 use Rattle.book.specs.Result.{row}
 use Rattle.book.proofs.Asking.{rank_no_teacher}
+use Rattle.book.proofs.Results.{row_more}
 
 -- the first that passes is l, exactly if the first that passes or is l is l, and l passes
 pub first_at : (p : ℕ → Bool) (l : ℕ) (xs : List ℕ) → holds (first p xs) l ≡ (holds (first (λ k. eqb k l || p k) xs) l && p l)
@@ -66,6 +68,10 @@ reach_past b l t h = by (comes_to (book_model b) l t) ((book_model b).0.ranks l 
 -- rows that agree entry by entry
 pub row_same : (f g : ℕ → ℕ) (n : ℕ) → ((t : ℕ) → f t ≡ g t) → row f n ≡ row g n
 row_same f g n h = ap (λ (k : ℕ → ℕ). row k n) (fun_ext h)
+
+-- a row, a mark further
+pub mark_more : (f : ℕ → ℕ) (xs : List ℕ) (i x : ℕ) → i < length xs → x ≡ f i → take i xs ≡ row f i → take (i + 1) (set xs i x) ≡ row f (i + 1)
+mark_more f xs i x h e s = take_more_set xs i x h ∙ ap₂ (λ ys y. ys ++ y ∷ []) s e ∙ row_more f i
 
 -- the marks at the lane's cutoff are the row of its askers
 pub marks_are : (m : Model) (l n : ℕ) (rs : List ℕ) → ((t : ℕ) → get_or rs t 0 ≡ reach_in m l t) → n ≡ length m.0.staff

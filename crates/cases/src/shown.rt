@@ -73,7 +73,7 @@ impl<'a> Reader<'a> {
     fn show_fault(&self, pair: Pair, fault: Fault) -> io::Result<()> {
         let rt = self.rt;
         let number = fault.kind.number();
-        let sheet = fault.sheet.number();
+        let sheet = fault.sheet;
         let place = fault.place;
         print!(rt;
             "refused {number}, sheet {sheet}, line {}, place {place}, found by the {}, text [",

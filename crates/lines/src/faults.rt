@@ -32,20 +32,20 @@ pub enum Sheet {
     Staff = 2,
 }
 
-// The first fault of a sheet: lines count from 1, and places in bytes from 0.
+// The first fault of a sheet, which goes by its number: 1 is posts and 2 staff. Lines count from 1, and places in bytes from 0.
 #[derive(Clone, Copy, Debug, PartialEq, Eq)]
 pub struct Fault {
     pub kind: FaultKind,
-    pub sheet: Sheet,
+    pub sheet: u8,
     pub line: usize,
     pub place: usize,
     pub layer: Layer,
 }
 
-// Where a line begins.
+// Where a line begins. Its sheet stays a number, and so does a fault's: the readers of a line take any number for it, and hand it on as it is.
 #[derive(Clone, Copy, Debug, PartialEq, Eq)]
 pub struct Spot {
-    pub sheet: Sheet,
+    pub sheet: u8,
     pub line: usize,
     pub place: usize,
 }
@@ -133,7 +133,9 @@ impl fmt::Display for Fault {
         write!(
             f,
             "the sheet of {}, line {}: {}",
-            self.sheet, self.line, self.kind
+            Sheet::from(self.sheet),
+            self.line,
+            self.kind
         )
     }
 }

@@ -2,4 +2,3 @@ pub mod Pieces
 pub mod Lawful
 pub mod Short
 pub mod Appending
-pub mod Filling

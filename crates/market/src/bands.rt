@@ -1,11 +1,10 @@
 // Licences and bands.
-ghost use Rattle.std.specs.Prelude.{◌≡◌, ◌≤◌, MatchOption, map, length, take, slice_get};
+ghost use Rattle.std.specs.Prelude.{◌≡◌, ◌≤◌, map, length, take};
 ghost use Rattle.sheets.specs.Model.{teacher_record};
 ghost use Rattle.market.specs.Tables.{person, teaches as teaches_of, band_of, band_in};
 
 use lines::holds;
 use sheets::Teacher;
-use std::array;
 
 // Is the teacher licensed for lanes of the subject?
 fn teaches(p: &Teacher, subject: u16) -> bool
@@ -37,17 +36,15 @@ fn band_in(p: &Teacher, subject: u16) -> u8
     }
 }
 
-// The band of the teacher at the place, or 0 past the teachers.
-fn band_at(teachers: &[Teacher], t: usize, subject: u16) -> u8
-    ensures { MatchOption (slice_get teachers.now t) (result ≡ 0) (λ p. result ≡ band_in subject (person (teacher_record p))) }
-{
-    teachers.get(t).map_or(0, |p| band_in(p, subject))
-}
-
 // The bands of the teachers in a lane of the subject, one byte a teacher; bytes past the teachers are 0.
 // An array and no Vec: memory is had once before a round, and no call allocates.
 pub fn bands_of(teachers: &[Teacher], subject: u16) -> [u8; 200]
     ensures { length teachers.now ≤ 200 → take (length teachers.now) result ≡ map (band_in subject) (map person (map teacher_record teachers.now)) }
 {
-    array::from_fn(|t| band_at(teachers, t, subject))
+    let mut bands = [0; 200];
+    let n = teachers.len().min(200);
+    for (t, band) in bands[..n].iter_mut().enumerate() {
+        *band = band_in(&teachers[t], subject);
+    }
+    bands
 }

@@ -16,11 +16,11 @@ pub fn show_fault(
     fault: Fault,
 ) -> Result<()> {
     let number = fault.kind.number();
-    let sheet = fault.sheet.number();
+    let sheet = fault.sheet;
     let line = fault.line;
     let place = fault.place;
     println!(rt; "refused={number}\nsheet={sheet}\nline={line}\nplace={place}")?;
-    let name = match fault.sheet {
+    let name = match Sheet::from(sheet) {
         Sheet::Posts => paths.posts.as_str(),
         Sheet::Staff => paths.staff.as_str(),
     };

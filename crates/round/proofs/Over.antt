@@ -1,10 +1,7 @@
 -- Over-asked lanes: what the limit's answer tells, and that their cutoffs can rise.
-use Rattle.std.proofs.Common.{◌≡◌, ℕ, zero, suc, ◌+◌, ◌-◌, ◌<◌, ◌≤◌, min, Bool, true, false, cond, not, ◌&&◌, eqb, ltb, ◌≢◌, List, length, get_or, Some, None, Option, sym, subst, refl, ap, ◌∙◌, ap₂, inl, inr, ⊎_elim, add-zero, arith}
+use Rattle.std.proofs.Common.{◌≡◌, ℕ, zero, suc, ◌+◌, ◌-◌, ◌<◌, ◌≤◌, min, Bool, true, false, cond, not, ◌&&◌, eqb, ltb, ◌≢◌, List, length, get_or, Some, None, Option, sym, refl, ap, ◌∙◌, ap₂, inl, inr, ⊎_elim, add-zero, arith}
 use mathlib.Core.Path.{fun_ext}
-use denote.Param.Members.{Mut, Called}
-use Rattle.std.specs.Array.{IsFromFnResultFrom, IsFromFnResult}
 use Rattle.std.specs.Option.{MatchOption}
-use Rattle.std.proofs.lemmas.List.{get_or_past}
 use Rattle.std.proofs.lemmas.Bool.{cases_lt, cases_eq, both_ways, lt-ltb, le-ltb, ltb-true, eq-eqb, ne_eqb, cond-true, cond-false, and_parts, not-true}
 use Rattle.matching.specs.Groups.{Group, nobody, told}
 use Rattle.matching.specs.Log.{picks, least, on_some, pressed}
@@ -133,22 +130,6 @@ module _ (p : ℕ → Bool) where
       → MatchOption r ((k : ℕ) → 0 ≤ k → k < m → p k ≡ false) (λ i. (0 ≤ i) × (i < m) × (p i ≡ true) × ((k : ℕ) → 0 ≤ k → k < i → p k ≡ false)) → r ≡ least p n
   least_is n m None e h = sym (least_none n (λ k l. h k (omega arith) (omega arith)))
   least_is n m (Some i) e h = sym (least_hit i n (least_none i (λ k l. h.3 k (omega arith) l)) h.2 (omega (arith, h.1)))
-
--- ---- the marks of the over-asked lanes, as calls of a closure that stays as it is gave them
-
-module _ {F : Type 0} (g : Mut F (ℕ × Unit {0}) Bool) (f : F) (p : ℕ → Bool) (calls : (l : ℕ) (b : Bool) (q : F) → Called g f (l, tt) b q → (q ≡ f) × (b ≡ p l)) (marks : List Bool) where
-  mark_at : (n i l : ℕ) → IsFromFnResultFrom g f marks i n → i ≤ l → l < i + n → get_or marks l false ≡ p l
-  mark_at zero i l m a b = absurd (omega arith)
-  mark_at (suc n) i l m a b = elim (cases_eq l i) [
-    | inl e ↦ ap (λ j. get_or marks j false) e ∙ m.2.1 false ∙ (calls i m.1 m.0 m.3).1 ∙ ap p (sym e)
-    | inr e ↦ let P : F → Type 0 = λ h. IsFromFnResultFrom g h marks (i + 1) n in mark_at n (i + 1) l (subst P (calls i m.1 m.0 m.3).0 m.4) (omega arith) (omega arith)
-  ]
-
-  pub marks_are : (n : ℕ) → IsFromFnResult g f marks n → ((l : ℕ) → n ≤ l → p l ≡ false) → (l : ℕ) → get_or marks l false ≡ p l
-  marks_are n m past l = elim (cases_lt l n) [
-    | inl a ↦ mark_at n 0 l m.each (omega arith) (omega arith)
-    | inr a ↦ get_or_past marks l false (omega (arith, m.long)) ∙ sym (past l a)
-  ]
 
 pub book_cut : (b : Book) (family : ℕ → Group → Bool) → ((lane : ℕ) → family lane nobody ≡ true) → (l : ℕ) → over_in family (book_model b) l ≡ true → (book_model b).1.cuts l ≤ 201
 book_cut b family empty l e = over_cut family (book_model b) empty (length (model_of b.sheets).teachers) (offers_past b) (ranks_small b) l e

@@ -1,6 +1,6 @@
 // Rows of many lengths, and caps on caps.
 use crate::pair::Pair;
-use anyhow::Result;
+use crate::stop::Result;
 use matching::policy::Limit;
 use rules::{Purse, Seats};
 use sheets::Sheets;

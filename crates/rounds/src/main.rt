@@ -6,11 +6,12 @@ mod pair;
 mod played;
 mod settled;
 mod small;
+mod stop;
 
-use anyhow::Result;
 use limits::{show_caps, show_rows};
 use played::show_round;
 use small::{show_cap, show_closed, show_purse};
+use stop::Result;
 
 fn main(rt: HostRuntime) -> Result<()> {
     show_rows(&rt)?;

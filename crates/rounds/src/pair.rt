@@ -1,5 +1,5 @@
 // Pairs of sheets, and what is filled from them.
-use anyhow::Result;
+use crate::stop::Result;
 use rules::{Cap, Points, Purse, Seats};
 use sheets::Sheets;
 

@@ -1,7 +1,7 @@
 // A round, played through.
 use crate::pair::Pair;
 use crate::settled::show_settle;
-use anyhow::Result;
+use crate::stop::Result;
 use book::Book;
 use round::{Place, Refusal};
 use rules::{Points, Seats};

@@ -1,5 +1,5 @@
 // What a settle answers.
-use anyhow::Result;
+use crate::stop::Result;
 use matching::policy::{Limit, Standing};
 use round::Place;
 

@@ -1,7 +1,7 @@
 // Small rounds under purse, seats and cap, settled with several budgets.
 use crate::pair::Pair;
 use crate::settled::show_settle;
-use anyhow::Result;
+use crate::stop::Result;
 use book::Book;
 use matching::policy::{Limit, Standing};
 use round::Place;
@@ -34,7 +34,7 @@ fn show_settled<S: Standing, L: Limit>(
 ) -> Result<()> {
     show_settle(rt, place, budget)?;
     let mut room = vec![in rt.alloc(); 0u8; 2000]?;
-    let n = place.write_result(&mut room)?;
+    let n = place.write_result(&mut room).unwrap_or(0);
     if let Some(sheet) = room.get(..n) {
         let mut out = rt.stdout();
         out.write_all(sheet)?;

@@ -34,7 +34,7 @@ fn tally<F: Fn(usize) -> u16>(row: &[u8], worth: F) -> u32
     ensures { (w : ℕ → ℕ) → ((i r : ℕ) → i < 200 → F.post worth i r → r ≡ w i) → result ≡ sum_to (λ t. cond (told row.now t) (w t) 0) 200 }
 {
     let mut sum = 0;
-    for (i, mark) in row.iter().take(200).enumerate() {
+    for (i, mark) in row[..row.len().min(200)].iter().enumerate() {
         if *mark != 0 {
             sum += u32::from(worth(i));
         }

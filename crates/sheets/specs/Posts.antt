@@ -3,7 +3,6 @@ use Rattle.std.specs.Prelude.{ℕ, ◌+◌, ◌*◌, Bool, false, cond, ◌&&◌
 use Rattle.lines.specs.declared.keys.Key.TheVariants.{Schools, Subjects, Lanes, Lane as LaneKey, List as ListKey}
 use Rattle.lines.specs.declared.faults.Fault.{Fault}
 use Rattle.lines.specs.declared.faults.FaultKind.TheVariants.{TooLong, OutOfRange, PairTaken, Trailing}
-use Rattle.lines.specs.declared.faults.Sheet.TheVariants.{Posts}
 use Rattle.lines.specs.declared.faults.Spot.{Spot}
 use Rattle.lines.specs.Faults.{fault, bind}
 use Rattle.lines.specs.Lines.{field}
@@ -13,7 +12,7 @@ use Rattle.sheets.specs.Records.{repeat}
 
 -- line l of the posts sheet, which begins at place p
 abbrev pub posts_spot : ℕ → ℕ → Spot
-posts_spot l p = record { sheet = Posts; line = l; place = p }
+posts_spot l p = record { sheet = 1; line = l; place = p }
 
 -- one of the lanes has this school and subject
 abbrev pub taken : ℕ → ℕ → List LaneRecord → Bool

@@ -3,7 +3,6 @@ use Rattle.std.specs.Prelude.{ℕ, ◌+◌, ◌*◌, cond, List, [], length, Ok,
 use Rattle.lines.specs.declared.keys.Key.TheVariants.{Teachers, Home, Main, Wish, Points, Cost}
 use Rattle.lines.specs.declared.faults.Fault.{Fault}
 use Rattle.lines.specs.declared.faults.FaultKind.TheVariants.{TooLong, Trailing}
-use Rattle.lines.specs.declared.faults.Sheet.TheVariants.{Staff}
 use Rattle.lines.specs.declared.faults.Spot.{Spot}
 use Rattle.lines.specs.Faults.{fault, bind}
 use Rattle.sheets.specs.Model.{TeacherRecord}
@@ -12,7 +11,7 @@ use Rattle.lines.specs.Entries.{single, unrepeated, licences}
 
 -- line l of the staff sheet, which begins at place p
 abbrev pub staff_spot : ℕ → ℕ → Spot
-staff_spot l p = record { sheet = Staff; line = l; place = p }
+staff_spot l p = record { sheet = 2; line = l; place = p }
 
 -- the six lines of a teacher, from line l and place p on, and the place behind them
 abbrev pub teacher : ℕ → ℕ → List ℕ → ℕ → ℕ → Result (TeacherRecord × ℕ) Fault

@@ -8,5 +8,9 @@ use lines::{Sheet, Spot};
 pub(crate) fn at(sheet: Sheet, line: usize, place: usize) -> Spot
     ensures { result ≡ spot_in sheet line place }
 {
-    Spot { sheet, line, place }
+    Spot {
+        sheet: sheet.number(),
+        line,
+        place,
+    }
 }

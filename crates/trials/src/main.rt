@@ -2,14 +2,15 @@
 #![tactic(auto)]
 
 mod rows;
+mod stop;
 mod written;
 
-use anyhow::Result;
 use book::Book;
 use round::Place;
 use rows::show_all;
 use rules::{Points, Seats};
 use sheets::Sheets;
+use stop::Result;
 use written::show_sheets;
 
 // Two schools, three lanes of size 1, and three teachers.

@@ -1,5 +1,5 @@
 // Rows of askers, and trials.
-use anyhow::Result;
+use crate::stop::Result;
 use round::{Place, Refusal};
 use rules::{Points, Seats};
 

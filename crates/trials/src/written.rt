@@ -1,5 +1,5 @@
 // Sheets that a place writes, and opens again.
-use anyhow::{Result, bail};
+use crate::stop::{Result, Stop};
 use round::Place;
 use rules::{Points, Seats};
 use sheets::{Sheets, WriteRefusal};
@@ -63,7 +63,7 @@ fn reopen(rt: &HostRuntime, place: &mut Place<Points, Seats>, desk: &mut Sheets)
     let m = Written::Posts.write(place, &mut posts)?;
     let n = Written::Staff.write(place, &mut staff)?;
     let (Some(posts), Some(staff)) = (posts.get(..m), staff.get(..n)) else {
-        bail!("a sheet was not written");
+        return Err(Stop::BadSheet);
     };
     match place.open(desk, posts, staff) {
         Ok(()) => println!(rt; "opened with its own sheets")?,

@@ -4,7 +4,7 @@ use std::io;
 
 // One line on the standard error: the file, the line and what is wrong there. A sheet that is too long has no line at fault.
 pub fn show_fault(rt: &HostRuntime, fault: Fault) -> io::Result<()> {
-    let name = match fault.sheet {
+    let name = match Sheet::from(fault.sheet) {
         Sheet::Posts => "posts.txt",
         Sheet::Staff => "staff.txt",
     };

@@ -84,13 +84,18 @@ impl Book {
         ensures long { length result ≡ 200 }
         ensures each { (t : ℕ) → slice_index_or result t None ≡ offer_in (book_model self.now) t }
     {
-        // An array with a place for each teacher that there may be: no call allocates, and callers are promised 200 places.
-        array::from_fn(|t| self.offer(t))
+        // An array with a place for each teacher that there may be: no call allocates, and callers are promised 200 places. Only those of the
+        // round's teachers are gone through, so a small round is asked fast.
+        let mut offers = [None; 200];
+        for (t, offer) in offers[..self.teacher_count()].iter_mut().enumerate() {
+            *offer = self.offer(t);
+        }
+        offers
     }
 }
 
 // Is the lane given, if any, this lane?
-pub(super) fn is_lane(lane: Option<u16>, l: usize) -> bool
+fn is_lane(lane: Option<u16>, l: usize) -> bool
     ensures { result ≡ holds lane l }
 {
     lane.is_some_and(|k| usize::from(k) == l)

@@ -45,8 +45,8 @@ impl Book {
         ensures { listed result ≡ seats_of (book_model self.now) }
     {
         let mut seats = BoundedList::new();
-        for offer in &self.offers()[..self.teacher_count()] {
-            let _ = seats.push(seat(*offer));
+        for t in 0..self.teacher_count() {
+            let _ = seats.push(seat(self.offer(t)));
         }
         seats
     }

@@ -8,10 +8,9 @@ ghost use Rattle.book.specs.Held.{book_model};
 ghost use Rattle.book.specs.Reach.{stops_at, comes_to, reach_in, reaches as reaches_at};
 ghost use Rattle.book.specs.Result.{row as row_of};
 
-use super::ask::is_lane;
 use super::{Book, Cutoffs};
 use std::error::Error;
-use std::{array, fmt};
+use std::fmt;
 
 // The row has not one byte a teacher.
 #[derive(Clone, Copy, Debug, PartialEq, Eq)]
@@ -124,8 +123,9 @@ fn write_marks(cutoff: u16, reaches: &[u16; 200], row: &mut [u8])
     requires { length row.old ≤ 200 }
     ensures { row.new ≡ row_of (λ t. bit (reaches_at cutoff (slice_index reaches.now t))) (length row.old) }
 {
-    let marks = reaches.map(|reach| mark_at(cutoff, reach));
-    row.copy_from_slice(&marks[..row.len()]);
+    for (t, mark) in row.iter_mut().enumerate() {
+        *mark = mark_at(cutoff, reaches[t]);
+    }
 }
 
 impl Book {
@@ -140,8 +140,14 @@ impl Book {
     fn comes_to(&self, l: usize, t: usize) -> bool
         ensures { result ≡ comes_to (book_model self.now) l t }
     {
-        let mut lanes = self.pick_list(t).iter().copied();
-        is_lane(lanes.find(|k| self.stops_at(l, t, usize::from(*k))), l)
+        // A loop that ends at the lane: with the library's `find` a row of 200 askers took half as long again.
+        let list = self.pick_list(t);
+        for k in list {
+            if self.stops_at(l, t, *k as usize) {
+                return *k as usize == l;
+            }
+        }
+        false
     }
 
     // The highest cutoff of the lane at which the teacher would ask for it; 0 if there is none, and no Option, as ranks have it.
@@ -160,8 +166,12 @@ impl Book {
         ensures long { length result ≡ 200 }
         ensures each { (t : ℕ) → slice_index result t ≡ reach_in (book_model self.now) l t }
     {
-        // An array, as in `Book::offers`.
-        array::from_fn(|t| self.reach(l, t))
+        // An array, filled as in `Book::offers`.
+        let mut reaches = [0; 200];
+        for (t, reach) in reaches[..self.teacher_count()].iter_mut().enumerate() {
+            *reach = self.reach(l, t);
+        }
+        reaches
     }
 
     // How many teachers are licensed for the lane.

@@ -9,7 +9,6 @@ use crate::answers::Refusal;
 use book::asker_row;
 use matching::numbers::is_within;
 use matching::policy::{Limit, Standing};
-use std::array;
 
 // The index of the number n, which counts from 1 to the last; or the refusal, if n is none of them.
 fn index_of(n: u16, last: usize, refusal: Refusal) -> Result<usize, Refusal>
@@ -77,12 +76,16 @@ impl<S: Standing, L: Limit> Place<S, L> {
         (0..self.book.lane_count()).find(|l| self.is_crowded(&offers, *l))
     }
 
-    // Which lanes are over-asked. They stand in an array, for at most 80 lanes, since no call allocates.
+    // Which lanes are over-asked. They stand in an array, for at most 80 lanes, since no call allocates; only those of the round are gone through.
     pub(crate) fn over_marks(&self) -> [bool; 80]
         ensures long { length result ≡ 80 }
         ensures marks { (l : ℕ) → slice_index_or result l false ≡ over_in (L.Limit.family self.now.limit) (book_model self.now.book) l }
     {
         let offers = self.book.offers();
-        array::from_fn(|l| self.is_crowded(&offers, l))
+        let mut marks = [false; 80];
+        for (l, mark) in marks[..self.book.lane_count()].iter_mut().enumerate() {
+            *mark = self.is_crowded(&offers, l);
+        }
+        marks
     }
 }

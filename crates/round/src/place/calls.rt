@@ -50,7 +50,7 @@ impl<S: Standing, L: Limit> Place<S, L> {
         self.must_be_open()?;
         let marks = self.over_marks();
         let mut raised = 0;
-        for (l, over) in marks.iter().enumerate() {
+        for (l, over) in marks[..self.book.lane_count()].iter().enumerate() {
             if *over {
                 self.book.raise(l);
                 raised += 1;
